@@ -1,0 +1,3 @@
+// Examination scripts: branches, how a kind weighs one, and the sources that branches come from.
+pub mod branch;
+pub mod weighing;
