@@ -1,0 +1,3 @@
+pub mod Feed
+pub mod Format
+pub mod Table

@@ -1,0 +1,4 @@
+pub mod CallNames
+pub mod Digits
+pub mod Pieces
+pub mod Records

@@ -1,0 +1,14 @@
+// Where branches come from.
+ghost use mathlib.Core.Path.{_≡_};
+ghost use Rattle.script.specs.Feed.{Feed, Gives};
+use crate::branch::Placed;
+use crate::fault::Fault;
+
+// A source means a finite list of branches to come and an ending. Its one call answers the first
+// branch and drops it; with the list empty it answers the ending, again and again.
+pub trait Source {
+    ghost feed: { Self → Feed };
+
+    fn next(&mut self) -> Result<Option<Placed>, Fault>
+        ensures { λ r. ⌜ Gives (feed (now (self .entry))) r (feed (now (self .exit))) ⌝ };
+}
