@@ -1,3 +1,5 @@
 pub mod Feed
 pub mod Format
+pub mod Known
+pub mod Legend
 pub mod Table
