@@ -2,4 +2,6 @@ pub mod Feed
 pub mod Format
 pub mod Known
 pub mod Legend
+pub mod Row
 pub mod Table
+pub mod Text
