@@ -1,0 +1,3 @@
+pub mod Dioid
+pub mod Order
+pub mod Powers
