@@ -1,3 +1,4 @@
 pub mod Dioid
 pub mod Order
 pub mod Powers
+pub mod Star

@@ -1,1 +1,2 @@
 pub mod Algebra
+pub mod Equation
