@@ -1,3 +1,4 @@
 pub mod Algebra
 pub mod Equation
 pub mod Sums
+pub mod Truth

@@ -63,3 +63,6 @@ pub fn solve_one<K: Semiring>(a: K, b: K) -> K
 {
     a.star().product(b)
 }
+
+#[cfg(test)]
+mod tests;
