@@ -56,12 +56,19 @@ pub fn total<K: Semiring>(weights: &[K]) -> K
     all
 }
 
-// The least solution of x = a x + b.
+// star(a) × b: b after a, any number of times.
+fn starred<K: Semiring>(a: K, b: K) -> K
+    ensures { λ r. ⌜ r ≡ algebra .times (algebra .star a) b ⌝ }
+{
+    a.star().product(b)
+}
+
+// The least solution of x = a x + b, and with it what every star is good for.
 pub fn solve_one<K: Semiring>(a: K, b: K) -> K
     ensures least { λ r. ⌜ Least-solution algebra a b r ⌝ }
     ensures star { λ _. ⌜ Star-laws algebra a ⌝ }
 {
-    a.star().product(b)
+    starred(a, b)
 }
 
 #[cfg(test)]

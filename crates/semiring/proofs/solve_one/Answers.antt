@@ -6,8 +6,7 @@ use Rattle.semiring.proofs.solve_one.Needs as need
 pub returns : need.returns
 returns g c =
     let k = g .K·Semiring .algebra in
-    let is = rw (c .star .ensures) at (c .product .ensures) in
     record {
-      least = subst (Least-solution k (c .args .a) (c .args .b)) (sym is) (star-least-solution k (c .args .a) (c .args .b));
+      least = subst (Least-solution k (c .args .a) (c .args .b)) (sym (c .starred .ensures)) (star-least-solution k (c .args .a) (c .args .b));
       star = star-laws k (c .args .a);
     }
