@@ -1,7 +1,9 @@
 -- The order of a dioid: a lies under b where plus a b ≡ b. It is a partial order with least
 -- element zero, a sum is the least upper bound, and sum and product are monotone.
 use mathlib.Core.Path.{_≡_, sym, ap, _∙_}
-use Rattle.semiring.proofs.Dioid.{Dioid}
+use Rattle.semiring.specs.Algebra.{Algebra}
+use Rattle.semiring.specs.Order.{Order-laws}
+use Rattle.semiring.proofs.Dioid.{Dioid, dioid}
 
 module _ {K : Type 0} {none unit : K} {plus times : K → K → K} (d : Dioid none unit plus times) where
   pub one-times : (a : K) → times unit a ≡ a
@@ -80,3 +82,15 @@ module _ {K : Type 0} {none unit : K} {plus times : K → K → K} (d : Dioid no
 
   pub times-mono : {a b x y : K} → plus a x ≡ x → plus b y ≡ y → plus (times a b) (times x y) ≡ times x y
   times-mono {a} {b} {x} {y} p q = under-trans (times-mono-left b p) (times-mono-right x q)
+
+-- All of it for a kind.
+pub order-laws : {K : Type 0} (k : Algebra K) → Order-laws k
+order-laws k = record {
+  reflexive = under-refl (dioid k);
+  transitive = λ a b c. under-trans (dioid k);
+  antisymmetric = λ a b. under-antisym (dioid k);
+  zero-least = zero-under (dioid k);
+  sum-above = λ a b. (under-plus-left (dioid k) a b, under-plus-right (dioid k) a b);
+  sum-least = λ a b c. plus-least (dioid k);
+  product-monotone = λ a b x y. times-mono (dioid k);
+}

@@ -1,4 +1,5 @@
 pub mod Algebra
-pub mod Equation
+pub mod Order
 pub mod Sums
+pub mod Equation
 pub mod Truth

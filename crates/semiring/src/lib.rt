@@ -3,6 +3,7 @@
 ghost use mathlib.Core.Path.{_≡_};
 ghost use mathlib.Core.Bool.{true, false};
 ghost use Rattle.semiring.specs.Algebra.{Algebra, Under};
+ghost use Rattle.semiring.specs.Order.{Order-laws};
 ghost use Rattle.semiring.specs.Equation.{Least-solution, Star-laws};
 ghost use Rattle.semiring.specs.Sums.{total, Least-above};
 
@@ -63,9 +64,11 @@ fn starred<K: Semiring>(a: K, b: K) -> K
     a.star().product(b)
 }
 
-// The least solution of x = a x + b, and with it what every star is good for.
+// The least solution of x = a x + b; with it, what the order is that it is least in, and what
+// every star is good for.
 pub fn solve_one<K: Semiring>(a: K, b: K) -> K
     ensures least { λ r. ⌜ Least-solution algebra a b r ⌝ }
+    ensures order { λ _. ⌜ Order-laws algebra ⌝ }
     ensures star { λ _. ⌜ Star-laws algebra a ⌝ }
 {
     starred(a, b)
