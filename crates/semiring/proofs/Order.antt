@@ -48,6 +48,10 @@ module _ {K : Type 0} {none unit : K} {plus times : K → K → K} (d : Dioid no
   pub under-antisym : {a b : K} → plus a b ≡ b → plus b a ≡ a → a ≡ b
   under-antisym {a} {b} p q = sym q ∙ d .plus-comm b a ∙ p
 
+  -- Adding what lies under b leaves b.
+  pub under-absorbed : {a b : K} → plus a b ≡ b → plus b a ≡ b
+  under-absorbed {a} {b} h = d .plus-comm b a ∙ h
+
   pub equal-under : {a b : K} → a ≡ b → plus a b ≡ b
   equal-under {a} {b} e = ap (λ x. plus x b) e ∙ d .plus-idem b
 

@@ -54,7 +54,7 @@ module _ {K : Type 0} {none unit : K} {plus times : K → K → K} (d : Dioid no
 
   -- How a kind finds a star. A power that lies under the sum of those before it ends the sum.
   pub powers-end : (a : K) (n : ℕ) → plus (power unit times a (suc n)) (powers unit plus times a n) ≡ powers unit plus times a n → powers unit plus times a (suc n) ≡ powers unit plus times a n
-  powers-end a n h = d .plus-comm (powers unit plus times a n) (power unit times a (suc n)) ∙ h
+  powers-end a n h = Order.under-absorbed d h
 
   -- A sum of powers that lies above one and that a keeps under itself is the star of a.
   pub finite-reached : {a s : K} (n : ℕ) → s ≡ powers unit plus times a n → plus unit s ≡ s → plus (times a s) s ≡ s → Finite-star unit plus times a s

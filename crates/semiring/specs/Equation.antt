@@ -1,10 +1,11 @@
--- The equation x = a x + b in one unknown, and what its least solution is.
+-- The equation x = a x + b in one unknown, what its least solution is, and what the star has to
+-- do with it.
 use mathlib.Core.Path.{_≡_}
 use Prim.Native.Nat.{ℕ}
 use Rattle.semiring.specs.Algebra.{Algebra, Under, power}
 
--- x solves the equation, and lies under every y with a y + b under y: under every other solution,
--- that is, and under all that the equation pushes no further up.
+-- x solves the equation, and lies under every y with a y + b under y; so it lies under every
+-- other solution.
 pub record Least-solution {K : Type 0} (k : Algebra K) (a b x : K) : Type 0 where
   pub solves : x ≡ k .plus (k .times a x) b
   pub least : (y : K) → Under k (k .plus (k .times a y) b) y → Under k x y
