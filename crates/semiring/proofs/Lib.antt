@@ -1,0 +1,5 @@
+pub mod Dioid
+pub mod Order
+pub mod Powers
+pub mod Star
+pub mod Sums
