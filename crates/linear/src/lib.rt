@@ -1,0 +1,1 @@
+// Linear systems over any kind of weight, and two solvers for them.
