@@ -1,4 +1,5 @@
 pub mod CallNames
+pub mod Calling
 pub mod Digits
 pub mod Numbering
 pub mod Pieces

@@ -1,6 +1,6 @@
 -- What the parts of one line hold, as the reader takes them apart.
 use mathlib.Core.Path.{_≡_}
-use mathlib.Core.List.{List, [], _∷_}
+use mathlib.Core.List.{List, [], _∷_, _++_}
 use Prim.Native.Nat.{ℕ, _+_, _<_, _≤_}
 use lib.ListN.{length, take}
 use Rattle.std.specs.declared.option.Option.{Option}
@@ -25,12 +25,11 @@ row-words w = w .name .now ∷ w .seconds .now ∷ w .light .now ∷ w .turn .no
 abbrev pub counted : Calls → List ℕ
 counted c = take (c .count) (c .places)
 
--- Names that are numbered from the left behind those that are counted already; none where there
--- would be more than 32 names.
-abbrev pub Numbers : Legend → List (List ℕ) → Calls → Option Calls → Legend → Type 0
-Numbers before words calls None after = 32 < length (all-met before words)
-Numbers before words calls (Some c) after =
-    (length (all-met before words) ≤ 32) × (c .count ≡ calls .count + length words) × (after ≡ all-met before words)
+-- Names that are numbered from the left, behind those that have a number already; none where
+-- there would be more than 32 names.
+abbrev pub Numbers : Legend → List (List ℕ) → List ℕ → Option Calls → Legend → Type 0
+Numbers before words already None after = 32 < length (all-met before words)
+Numbers before words already (Some c) after = (length (all-met before words) ≤ 32) × (counted c ≡ already ++ numbers-of before words) × (after ≡ all-met before words)
 
 -- a refusal within a line that begins at a place
 abbrev pub fault-at : Place → Misread → Fault

@@ -2,12 +2,13 @@
 ghost use mathlib.Core.Path.{_≡_};
 ghost use mathlib.Core.Bool.{true, false};
 ghost use mathlib.Core.List.{[], _∷_, _++_};
-ghost use Prim.Native.Nat.{_+_, _<_, _≤_, _^_};
+ghost use Prim.Native.Nat.{_+_, _-_, _<_, _≤_, _^_};
 ghost use lib.Dec.{eqb};
 ghost use lib.ListN.{length};
 ghost use Rattle.std.specs.Options.{Cases};
-ghost use Rattle.script.specs.Format.{pieces};
-ghost use Rattle.script.specs.Row.{row-words, counted};
+ghost use Rattle.script.specs.Format.{pieces, are-names, called, is-calls};
+ghost use Rattle.script.specs.Known.{known};
+ghost use Rattle.script.specs.Row.{row-words, counted, Numbers};
 use super::Calls;
 use super::Place;
 use super::Row;
@@ -47,7 +48,8 @@ impl<'a> Row<'a> {
 
 impl Calls {
     fn none() -> Calls
-        ensures { λ r. ⌜ r .count ≡ 0 ⌝ }
+        ensures count { λ r. ⌜ r .count ≡ 0 ⌝ }
+        ensures counted { λ r. ⌜ counted r ≡ [] ⌝ }
     {
         Calls {
             count: 0,
@@ -67,6 +69,35 @@ impl Calls {
             count: self.count + 1,
             places,
         }
+    }
+}
+
+// Numbers the names of a calls word from the left, behind the calls that are counted already;
+// none where there would be more than 32 names.
+fn number_names(names: &mut Names, calls: Calls, word: &[u8]) -> Option<Calls>
+    requires { ⌜ are-names (4 - calls .count) (pieces 43 (now word)) ≡ true ⌝ }
+    ensures { λ r. ⌜ Numbers (known (now (names .entry))) (pieces 43 (now (word .entry))) (counted calls) r (known (now (names .exit))) ⌝ }
+{
+    match cut(word, PLUS) {
+        None => {
+            let call = names.number(word)?;
+            Some(calls.with(call))
+        }
+        Some((name, rest)) => {
+            let call = names.number(name)?;
+            number_names(names, calls.with(call), rest)
+        }
+    }
+}
+
+// Numbers the calls of a well-formed calls word.
+fn number_calls(names: &mut Names, word: &[u8]) -> Option<Calls>
+    requires { ⌜ is-calls (now word) ≡ true ⌝ }
+    ensures { λ r. ⌜ Numbers (known (now (names .entry))) (called (now (word .entry))) [] r (known (now (names .exit))) ⌝ }
+{
+    match word {
+        [b'-'] => Some(Calls::none()),
+        _ => number_names(names, Calls::none(), word),
     }
 }
 
