@@ -4,4 +4,5 @@ pub mod Digits
 pub mod Numbering
 pub mod Pieces
 pub mod Records
+pub mod Rows
 pub mod Slots

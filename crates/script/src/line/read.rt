@@ -8,7 +8,8 @@ ghost use lib.ListN.{length};
 ghost use Rattle.std.specs.Options.{Cases};
 ghost use Rattle.script.specs.Format.{pieces, are-names, called, is-calls};
 ghost use Rattle.script.specs.Known.{known};
-ghost use Rattle.script.specs.Row.{row-words, counted, Numbers};
+ghost use Rattle.script.specs.Row.{row-words, counted, Numbers, fault-at, Column, Routine, Called, Reads};
+ghost use Rattle.script.specs.Text.{offset};
 use super::Calls;
 use super::Place;
 use super::Row;
@@ -27,7 +28,7 @@ use crate::words::number;
 impl<'a> Row<'a> {
     // The words of a line, where there are five.
     fn of(line: &'a [u8]) -> Option<Row<'a>>
-        ensures { λ r. ⌜ Cases r (eqb (length (pieces 32 (now (line .entry)))) 5 ≡ false) (λ w. pieces 32 (now (line .entry)) ≡ row-words w) ⌝ }
+        ensures { λ r. ⌜ Cases r (eqb (length (pieces 32 (now (line .entry)))) 5 ≡ false) (λ w. (pieces 32 (now (line .entry)) ≡ row-words w) × (offset (row-words w) 4 + length (now (w .calls)) ≡ length (now (line .entry)))) ⌝ }
     {
         let (name, rest) = cut(line, SPACE)?;
         let (seconds, rest) = cut(rest, SPACE)?;
@@ -101,6 +102,81 @@ fn number_calls(names: &mut Names, word: &[u8]) -> Option<Calls>
     }
 }
 
-pub fn read_line(names: Names, line: &[u8], place: Place) -> usize {
-    0
+impl Place {
+    // The fault of a word that begins so far behind this place.
+    fn fault(self, refusal: Refusal, behind: usize) -> Fault
+        requires { ⌜ self .byte + behind < 2 ^ 64 ⌝ }
+        ensures { λ r. ⌜ r ≡ fault-at self refusal behind ⌝ }
+    {
+        Fault {
+            number: refusal.number(),
+            layer: Layer::Reader,
+            line: self.line,
+            byte: self.byte + behind,
+        }
+    }
+}
+
+fn read_number(word: &[u8], most: u16, place: Place, behind: usize) -> Result<u16, Fault>
+    requires { ⌜ place .byte + behind < 2 ^ 64 ⌝ }
+    ensures { λ r. ⌜ Column most (now (word .entry)) place behind r ⌝ }
+{
+    match number(word, most) {
+        Some(n) => Ok(n),
+        None => Err(place.fault(Refusal::Number, behind)),
+    }
+}
+
+fn read_routine(names: &mut Names, word: &[u8], place: Place) -> Result<u8, Fault>
+    ensures { λ r. ⌜ Routine (known (now (names .entry))) (now (word .entry)) place r (known (now (names .exit))) ⌝ }
+{
+    if !name_ok(word) {
+        return Err(place.fault(Refusal::Name, 0));
+    }
+    match names.number(word) {
+        Some(n) => Ok(n),
+        None => Err(place.fault(Refusal::Names, 0)),
+    }
+}
+
+fn read_calls(names: &mut Names, word: &[u8], place: Place, behind: usize) -> Result<Calls, Fault>
+    requires { ⌜ place .byte + behind < 2 ^ 64 ⌝ }
+    ensures { λ r. ⌜ Called (known (now (names .entry))) (now (word .entry)) place behind r (known (now (names .exit))) ⌝ }
+{
+    if !calls_ok(word) {
+        return Err(place.fault(Refusal::Calls, behind));
+    }
+    match number_calls(names, word) {
+        Some(calls) => Ok(calls),
+        None => Err(place.fault(Refusal::Names, behind)),
+    }
+}
+
+// The branch of a line, with the names met by then.
+pub fn read_line(mut names: Names, line: &[u8], place: Place) -> Result<(Branch, Names), Fault>
+    requires { ⌜ place .byte + length (now line) < 2 ^ 64 ⌝ }
+    ensures { λ r. ⌜ Reads (known names) (pieces 32 (now (line .entry))) place r ⌝ }
+{
+    let Some(row) = Row::of(line) else {
+        return Err(place.fault(Refusal::Words, 0));
+    };
+    let routine = read_routine(&mut names, row.name, place)?;
+    let seconds_at = row.name.len() + 1;
+    let seconds = read_number(row.seconds, 3600, place, seconds_at)?;
+    let light_at = seconds_at + row.seconds.len() + 1;
+    let light = read_number(row.light, 65535, place, light_at)?;
+    let turn_at = light_at + row.light.len() + 1;
+    let turn = read_number(row.turn, 23, place, turn_at)?;
+    let calls_at = turn_at + row.turn.len() + 1;
+    let calls = read_calls(&mut names, row.calls, place, calls_at)?;
+    let places = calls.places;
+    let branch = Branch {
+        routine,
+        count: calls.count as u8,
+        calls: places,
+        seconds,
+        light,
+        turn: turn as u8,
+    };
+    Ok((branch, names))
 }
