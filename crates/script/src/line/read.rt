@@ -104,7 +104,7 @@ fn number_calls(names: &mut Names, word: &[u8]) -> Option<Calls>
 
 impl Place {
     // The fault of a word that begins so far behind this place.
-    fn fault(self, refusal: Refusal, behind: usize) -> Fault
+    pub fn fault(self, refusal: Refusal, behind: usize) -> Fault
         requires { ⌜ self .byte + behind < 2 ^ 64 ⌝ }
         ensures { λ r. ⌜ r ≡ fault-at self refusal behind ⌝ }
     {
