@@ -1,3 +1,4 @@
+pub mod Bounds
 pub mod CallNames
 pub mod Calling
 pub mod Digits

@@ -3,6 +3,7 @@ pub mod Format
 pub mod Known
 pub mod Legend
 pub mod Row
+pub mod Shown
 pub mod Table
 pub mod Text
 pub mod Unread

@@ -6,6 +6,7 @@ ghost use denote.Ref.{now};
 use crate::fault::Fault;
 use crate::names::Names;
 
+#[derive(Drop)]
 pub struct TextSource<'a> {
     // What has not been read yet, with the number and the first byte of its first line.
     rest: &'a [u8],
@@ -19,3 +20,5 @@ pub struct TextSource<'a> {
 }
 
 mod read;
+
+pub use read::LinesOfText;
