@@ -51,3 +51,6 @@ pub fn printed(heap: Global, text: &[u8]) -> Result<Report, AllocError>
         }
     }
 }
+
+#[cfg(test)]
+mod tests;

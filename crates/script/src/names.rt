@@ -15,7 +15,7 @@ pub struct Name {
 #[derive(Clone, Copy)]
 pub struct Names {
     slots: [Name; 32],
-    count: usize,
+    pub count: usize,
     ghost room: { length slots ≡ 32 },
     ghost fits: { count ≤ 32 },
 }

@@ -45,13 +45,6 @@ impl Names {
         }
     }
 
-    // How many names have been met.
-    pub fn count(&self) -> usize
-        ensures { λ r. ⌜ r ≡ length (known (now (self .entry))) ⌝ }
-    {
-        self.count
-    }
-
     // The number of a name: its place among those met, or their count where it is new.
     fn place(&self, word: &[u8]) -> usize
         ensures { λ r. ⌜ r ≡ number-of (known (now (self .entry))) (now (word .entry)) ⌝ }

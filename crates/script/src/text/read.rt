@@ -73,7 +73,7 @@ impl<'a> TextSource<'a> {
         ensures count { λ r. ⌜ r ≡ length (known (now (self .entry) .names)) ⌝ }
         ensures at_end { λ _. ⌜ At-end (now (self .entry)) ⌝ }
     {
-        self.names.count()
+        self.names.count
     }
 
     // The name of the routine with this number, of those met so far.

@@ -1,5 +1,0 @@
-use Rattle.script.proofs.Slots.{length-known}
-use Rattle.script.proofs.names.Names.count.Needs as need
-
-pub returns : need.returns
-returns c = length-known (c .args .self .now)
