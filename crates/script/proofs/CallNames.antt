@@ -18,9 +18,8 @@ use Rattle.script.proofs.Pieces.{pieces-onto}
 pub at-first : {Y : Type 0} (F : List ℕ → Y) (w : List ℕ) → 0 < length w → F w ≡ F (getD w 0 0 ∷ take (length w - 1) (drop 1 w))
 at-first F w some = ap F (first-rest w 0 some)
 
--- a letter is no plus sign
-not-plus : (b : ℕ) → letter b ≡ true → b ≡ 43 → ⊥
-not-plus b l e = omega (arith, leb-true 65 b (and-parts (leb 65 b) (leb b 90) l .0))
+pub letter-above : (b : ℕ) → letter b ≡ true → 64 < b
+letter-above b l = leb-true 65 b (and-parts (leb 65 b) (leb b 90) l .0)
 
 swap : (a b c : Bool) → (a && (b && c)) ≡ (b && (a && c))
 swap true true c = refl
@@ -39,7 +38,7 @@ module _ (first : ℕ) (rest : List ℕ) (most : ℕ) (lead : letter first ≡ t
   -- a first name with its rest `tail`, and the other pieces
   pub names-led : (tail : List ℕ) (ps : List (List ℕ)) → pieces 43 rest ≡ tail ∷ ps → are-names most (pieces 43 (first ∷ rest)) ≡ (is-tail tail && are-names (most - 1) ps)
   names-led tail ps cut =
-      ap (are-names most) (pieces-onto 43 first rest (not-plus first lead) ∙ ap (onto first) cut)
+      ap (are-names most) (pieces-onto 43 first rest (λ e. omega (arith, letter-above first lead)) ∙ ap (onto first) cut)
       ∙ names-step most (first ∷ tail) ps some ∙ ap (λ t. (t && is-tail tail) && are-names (most - 1) ps) lead
 
 -- a plus sign with nothing behind it

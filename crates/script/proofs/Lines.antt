@@ -31,7 +31,7 @@ module _ (legend : Legend) (line byte : ℕ) (l : List ℕ) where
   abbrev others : List (List ℕ) → Feed
   others ls = lines-feed (line-met legend (pieces space l)) (line + 1) (byte + length l + 1) ls
 
-  feed-at : (ls : List (List ℕ)) → 0 < length ls → lines-feed legend line byte (l ∷ ls) ≡ line-feed (line-refusal legend (pieces space l)) item (others ls)
+  pub feed-at : (ls : List (List ℕ)) → 0 < length ls → lines-feed legend line byte (l ∷ ls) ≡ line-feed (line-refusal legend (pieces space l)) item (others ls)
   feed-at [] some = absurd (not-suc-le-zero some)
   feed-at (m ∷ ls) some = refl
 

@@ -34,6 +34,7 @@ old-or-new (x ∷ xs) w = go (sameBytes x w) refl (old-or-new xs w)
   where
     at : (t : Bool) → sameBytes x w ≡ t → (number-of (x ∷ xs) w ≡ cond t 0 (suc (number-of xs w))) × (met (x ∷ xs) w ≡ cond t (x ∷ xs) (x ∷ met xs w))
     at t e = (ap (λ s. cond s 0 (suc (number-of xs w))) e, ap (λ s. cond s (x ∷ xs) (x ∷ met xs w)) e)
+
     go : (t : Bool) → sameBytes x w ≡ t → Old xs w ⊎ New xs w → Old (x ∷ xs) w ⊎ New (x ∷ xs) w
     go true e h = let a = at true e in inl (omega (arith, a .0), a .1)
     go false e (inl h) = let a = at false e in inl (omega (arith, a .0, h .0), a .1 ∙ ap (λ l. x ∷ l) (h .1))

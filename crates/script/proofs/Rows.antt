@@ -32,7 +32,7 @@ asked-no b why at later e = ap (λ t. asked t why at later) e
 pub not-five : (legend : Legend) (ws : List (List ℕ)) → eqb (length ws) 5 ≡ false → line-refusal legend ws ≡ Some (Words, 0)
 not-five legend ws e = asked-no (eqb (length ws) 5) Words 0 _ e
 
-module _ (legend : Legend) (n s l t c : List ℕ) (place : Place) where
+module _ (legend : Legend) (n s l t c : List ℕ) where
   abbrev ws : List (List ℕ)
   ws = n ∷ s ∷ l ∷ t ∷ c ∷ []
 
@@ -44,43 +44,48 @@ module _ (legend : Legend) (n s l t c : List ℕ) (place : Place) where
 
   abbrev room : Bool
   room = few (routine-met legend ws)
+
   abbrev seconds : Bool
   seconds = in-range 3600 s
+
   abbrev light : Bool
   light = in-range 65535 l
+
   abbrev turn : Bool
   turn = in-range 23 t
+
   abbrev all : Bool
   all = few (line-met legend ws)
 
-  pub bad-routine : (fault : Fault) (after : Legend) → Routine legend n place (Err fault) after → Reads legend ws place (Err fault)
-  bad-routine fault after (inl h) = ((Name, 0), (λ i. answered (h .0 i) room seconds light turn (is-calls c) all), h .1)
-  bad-routine fault after (inr h) = ((Names, 0), (λ i. answered (h .0 i) (h .1 i) seconds light turn (is-calls c) all), h .2)
+  pub good-line : is-name n ≡ true → room ≡ true → seconds ≡ true → light ≡ true → turn ≡ true → is-calls c ≡ true → all ≡ true → line-refusal legend ws ≡ None
+  good-line name-ok room-ok seconds-ok light-ok turn-ok calls-ok all-ok i = answered (name-ok i) (room-ok i) (seconds-ok i) (light-ok i) (turn-ok i) (calls-ok i) (all-ok i)
 
-  module _ (name : is-name n ≡ true) (met : room ≡ true) where
-    pub bad-seconds : (fault : Fault) (behind : ℕ) → behind ≡ offset ws 1 → Column 3600 s place behind (Err fault) → Reads legend ws place (Err fault)
-    bad-seconds fault behind at h = ((Number, offset ws 1), (λ i. answered (name i) (met i) (h .0 i) light turn (is-calls c) all), h .1 ∙ ap (fault-at place Number) at)
+  module _ (place : Place) where
+    pub bad-routine : (fault : Fault) (after : Legend) → Routine legend n place (Err fault) after → Reads legend ws place (Err fault)
+    bad-routine fault after (inl h) = ((Name, 0), (λ i. answered (h .0 i) room seconds light turn (is-calls c) all), h .1)
+    bad-routine fault after (inr h) = ((Names, 0), (λ i. answered (h .0 i) (h .1 i) seconds light turn (is-calls c) all), h .2)
 
-    module _ (seconds-ok : seconds ≡ true) where
-      pub bad-light : (fault : Fault) (behind : ℕ) → behind ≡ offset ws 2 → Column 65535 l place behind (Err fault) → Reads legend ws place (Err fault)
-      bad-light fault behind at h = ((Number, offset ws 2), (λ i. answered (name i) (met i) (seconds-ok i) (h .0 i) turn (is-calls c) all), h .1 ∙ ap (fault-at place Number) at)
+    module _ (name : is-name n ≡ true) (met : room ≡ true) where
+      pub bad-seconds : (fault : Fault) (behind : ℕ) → behind ≡ offset ws 1 → Column 3600 s place behind (Err fault) → Reads legend ws place (Err fault)
+      bad-seconds fault behind at h = ((Number, offset ws 1), (λ i. answered (name i) (met i) (h .0 i) light turn (is-calls c) all), h .1 ∙ ap (fault-at place Number) at)
 
-      module _ (light-ok : light ≡ true) where
-        pub bad-turn : (fault : Fault) (behind : ℕ) → behind ≡ offset ws 3 → Column 23 t place behind (Err fault) → Reads legend ws place (Err fault)
-        bad-turn fault behind at h =
-            ((Number, offset ws 3), (λ i. answered (name i) (met i) (seconds-ok i) (light-ok i) (h .0 i) (is-calls c) all), h .1 ∙ ap (fault-at place Number) at)
+      module _ (seconds-ok : seconds ≡ true) where
+        pub bad-light : (fault : Fault) (behind : ℕ) → behind ≡ offset ws 2 → Column 65535 l place behind (Err fault) → Reads legend ws place (Err fault)
+        bad-light fault behind at h = ((Number, offset ws 2), (λ i. answered (name i) (met i) (seconds-ok i) (h .0 i) turn (is-calls c) all), h .1 ∙ ap (fault-at place Number) at)
 
-        module _ (turn-ok : turn ≡ true) where
-          pub bad-calls : (fault : Fault) (behind : ℕ) (after : Legend) → behind ≡ offset ws 4 → Called (routine-met legend ws) c place behind (Err fault) after → Reads legend ws place (Err fault)
-          bad-calls fault behind after at (inl h) =
-              ((BadCalls, offset ws 4), (λ i. answered (name i) (met i) (seconds-ok i) (light-ok i) (turn-ok i) (h .0 i) all), h .1 ∙ ap (fault-at place BadCalls) at)
-          bad-calls fault behind after at (inr h) =
-              ((Names, offset ws 4), (λ i. answered (name i) (met i) (seconds-ok i) (light-ok i) (turn-ok i) (h .0 i) (h .1 i)), h .2 ∙ ap (fault-at place Names) at)
+        module _ (light-ok : light ≡ true) where
+          pub bad-turn : (fault : Fault) (behind : ℕ) → behind ≡ offset ws 3 → Column 23 t place behind (Err fault) → Reads legend ws place (Err fault)
+          bad-turn fault behind at h =
+              ((Number, offset ws 3), (λ i. answered (name i) (met i) (seconds-ok i) (light-ok i) (h .0 i) (is-calls c) all), h .1 ∙ ap (fault-at place Number) at)
 
-          pub good-line : is-calls c ≡ true → all ≡ true → line-refusal legend ws ≡ None
-          good-line calls-ok all-ok = λ i. answered (name i) (met i) (seconds-ok i) (light-ok i) (turn-ok i) (calls-ok i) (all-ok i)
+          module _ (turn-ok : turn ≡ true) where
+            pub bad-calls : (fault : Fault) (behind : ℕ) (after : Legend) → behind ≡ offset ws 4 → Called (routine-met legend ws) c place behind (Err fault) after → Reads legend ws place (Err fault)
+            bad-calls fault behind after at (inl h) =
+                ((BadCalls, offset ws 4), (λ i. answered (name i) (met i) (seconds-ok i) (light-ok i) (turn-ok i) (h .0 i) all), h .1 ∙ ap (fault-at place BadCalls) at)
+            bad-calls fault behind after at (inr h) =
+                ((Names, offset ws 4), (λ i. answered (name i) (met i) (seconds-ok i) (light-ok i) (turn-ok i) (h .0 i) (h .1 i)), h .2 ∙ ap (fault-at place Names) at)
 
-length-four : (ns : List ℕ) → length (four ns) ≡ 4
+pub length-four : (ns : List ℕ) → length (four ns) ≡ 4
 length-four ns = simp (length-take, length-append) (omega arith)
 
 -- the calls of a branch: how many, and their four places

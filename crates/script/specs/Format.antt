@@ -23,10 +23,13 @@ pieces sep (b ∷ bs) = cond (eqb b sep) ([] ∷ pieces sep bs) (onto b (pieces 
 -- 10 ends a line; a space, a plus sign, a minus sign
 abbrev pub line-end : ℕ
 line-end = 10
+
 abbrev pub space : ℕ
 space = 32
+
 abbrev pub plus-sign : ℕ
 plus-sign = 43
+
 abbrev pub minus-sign : ℕ
 minus-sign = 45
 

@@ -7,3 +7,4 @@ pub mod Shown
 pub mod Table
 pub mod Text
 pub mod Unread
+pub mod Writing

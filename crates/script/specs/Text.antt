@@ -51,18 +51,23 @@ offset (w ∷ ws) (suc k) = length w + 1 + offset ws k
 -- The words of a line, in the order of the first line of every file.
 abbrev pub name-word : List (List ℕ) → List ℕ
 name-word ws = getD ws 0 []
+
 abbrev pub seconds-word : List (List ℕ) → List ℕ
 seconds-word ws = getD ws 1 []
+
 abbrev pub light-word : List (List ℕ) → List ℕ
 light-word ws = getD ws 2 []
+
 abbrev pub turn-word : List (List ℕ) → List ℕ
 turn-word ws = getD ws 3 []
+
 abbrev pub calls-word : List (List ℕ) → List ℕ
 calls-word ws = getD ws 4 []
 
 -- the legend once a line's routine has been met, and once its calls have been met as well
 abbrev pub routine-met : Legend → List (List ℕ) → Legend
 routine-met legend ws = met legend (name-word ws)
+
 abbrev pub line-met : Legend → List (List ℕ) → Legend
 line-met legend ws = all-met (routine-met legend ws) (called (calls-word ws))
 

@@ -9,7 +9,9 @@ ghost use Rattle.std.specs.Options.{Cases};
 ghost use Rattle.script.specs.Format.{pieces, letter, digit, name-byte, every, is-tail, is-name, in-range, value, are-names, is-calls};
 
 pub const LINE_END: u8 = 10;
+
 pub const SPACE: u8 = 32;
+
 pub const PLUS: u8 = 43;
 
 // The place of the first `sep`, or the length where there is none.

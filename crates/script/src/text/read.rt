@@ -8,6 +8,7 @@ ghost use Rattle.script.specs.Feed.{Gives};
 ghost use Rattle.script.specs.Known.{known};
 ghost use Rattle.script.specs.Text.{failed, reader-fault, text-feed, text-legend};
 ghost use Rattle.script.specs.Unread.{text-left, legend-left, At-end};
+ghost use Rattle.script.specs.Writing.{Read-back};
 use super::TextSource;
 use crate::branch::Placed;
 use crate::fault::Fault;
@@ -49,6 +50,7 @@ impl<'a> TextSource<'a> {
     pub fn new(text: &'a [u8]) -> TextSource<'a>
         ensures feed { λ r. ⌜ text-left r ≡ text-feed (now (text .entry)) ⌝ }
         ensures legend { λ r. ⌜ legend-left r ≡ text-legend (now (text .entry)) ⌝ }
+        ensures read_back { λ r. ⌜ Read-back (now (text .entry)) (text-left r) ⌝ }
     {
         if text.len() > MOST_BYTES {
             return refused(Refusal::Size, 0);

@@ -17,8 +17,7 @@ returns c =
     let within : i < length text = omega arith in
     let parts = c .split-at .ensures in
     let front = c .split-at .result .0 .now in
-    let back = c .split-at .result .1 .now in
-    (
+    let back = c .split-at .result .1 .now in (
       cut-pieces sep text i within front back (parts .front) (parts .back) (c .find-end .ensures .before) (c .find-end .ensures .found),
       cut-length sep text i within front back (parts .front) (parts .back),
     )

@@ -27,8 +27,7 @@ loop-b-again c = (
 
 pub returns : need.returns
 returns c =
-    let all = at-drop-all (read-on (c .loop-b .value)) (c .args .word .now) (c .loop-b .b-index) (c .loop-b-test .left) in
-    (
+    let all = at-drop-all (read-on (c .loop-b .value)) (c .args .word .now) (c .loop-b .b-index) (c .loop-b-test .left) in (
       sym (c .loop-b .inv .1) ∙ at-drop-all (fits (c .args .most) (c .loop-b .value)) (c .args .word .now) (c .loop-b .b-index) (c .loop-b-test .left) ∙ le-leb _ _ (c .loop-b .inv .0),
       sym all ∙ c .loop-b .inv .2,
     )

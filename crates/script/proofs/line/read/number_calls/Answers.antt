@@ -22,8 +22,7 @@ pub returns-in-45 : need.returns-in-45
 returns-in-45 c =
     let w = c .args .word .now in
     let t = c .args .names .now in
-    let none : called w ≡ [] = minus-alone w (search needs) (search needs) in
-    (
+    let none : called w ≡ [] = minus-alone w (search needs) (search needs) in (
       subst (λ ws. length (all-met (known t) ws) ≤ 32) (sym none) (omega (arith, length-known t, t .fits)),
       c .none .ensures .counted ∙ ap (numbers-of (known t)) (sym none),
       ap (all-met (known t)) (sym none),

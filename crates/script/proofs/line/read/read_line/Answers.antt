@@ -76,9 +76,8 @@ returns c =
     let calls = c .in-Continue-calls .calls in
     let behind = length (w .name .now) + 1 + length (w .seconds .now) + 1 + length (w .light .now) + 1 + length (w .turn .now) + 1 in
     let h = subst (λ m. Called m (w .calls .now) (c .args .place) behind (Ok calls) after) (k .3) (c .in-Continue-calls .ensures tt) in
-    let good = good-line before (w .name .now) (w .seconds .now) (w .light .now) (w .turn .now) (w .calls .now) (c .args .place) (k .0) (k .1) (s .0) (l .0) (t .0) (h .0) (h .1) in
-    let same = c .in-Some .ensures tt .0 in
-    (
+    let good = good-line before (w .name .now) (w .seconds .now) (w .light .now) (w .turn .now) (w .calls .now) (k .0) (k .1) (s .0) (l .0) (t .0) (h .0) (h .1) in
+    let same = c .in-Some .ensures tt .0 in (
       ap (line-refusal before) same ∙ good,
       branch-is before (w .name .now) (w .seconds .now) (w .light .now) (w .turn .now) (w .calls .now) calls (h .2) _ _ _ _ (k .2) (s .1) (l .1) (t .1) ∙ ap (line-branch before) (sym same),
       h .3 ∙ ap (line-met before) (sym same),

@@ -29,7 +29,7 @@ returns c =
     let top = number-le (known t) w in
     let is = c .place-place .ensures in
     elim (c .if-place-self .came) [
-        then-place-self b ↦
+      | then-place-self b ↦
           let last = b .if-place-self .taken in
           let n = b .of .result in
           let room : place < length (t .slots) = omega (arith, t .room) in

@@ -1,10 +1,19 @@
-use mathlib.Core.Path.{sym, _∙_}
+use mathlib.Core.Path.{_≡_, sym, _∙_}
+use borrow.Author.Needs.{needs}
 use Rattle.std.proofs.shelf.Equals.{matches-decides}
 use Rattle.std.proofs.shelf.Tests.{not-true, not-false}
 use Rattle.script.specs.Known.{known}
-use Rattle.script.specs.Text.{first-line}
+use Rattle.script.specs.Text.{first-line, text-feed}
+use Rattle.script.specs.Unread.{text-left}
 use Rattle.script.proofs.Opening.{other-feed, other-legend, this-feed, this-legend}
+use Rattle.script.proofs.ReadBack.{read-back-as}
 use Rattle.script.proofs.text.TextSource.new.Needs as need
+
+pub returns-in-rest : need.returns-in-rest
+returns-in-rest c =
+    let text = c .args .text .now in
+    let feed : text-left (c .refused-in-rest .result) ≡ text-feed text = search needs in
+    record { feed = feed; legend = search needs; read-back = read-back-as text _ feed }
 
 pub returns-then-ne : need.returns-then-ne
 returns-then-ne c =
@@ -14,9 +23,11 @@ returns-then-ne c =
     let told = c .ne .ensures in
     let same = matches-decides first first-line (told .0) (told .1) in
     let other = not-true (told .0) (sym (told .2) ∙ c .if-ne .taken) in
+    let feed = c .refused-then-ne .ensures .feed ∙ other-feed text first rest (c .if-text-gt-MOST-BYTES .left) (c .in-Some .ensures tt .0) (told .0) same other in
     record {
-      feed = c .refused-then-ne .ensures .feed ∙ other-feed text first rest (c .if-text-gt-MOST-BYTES .left) (c .in-Some .ensures tt .0) (told .0) same other;
+      feed = feed;
       legend = c .refused-then-ne .ensures .legend ∙ other-legend text first rest (c .if-text-gt-MOST-BYTES .left) (c .in-Some .ensures tt .0) (told .0) same other;
+      read-back = read-back-as text _ feed;
     }
 
 pub returns : need.returns
@@ -27,7 +38,9 @@ returns c =
     let told = c .ne .ensures in
     let same = matches-decides first first-line (told .0) (told .1) in
     let this = not-false (told .0) (sym (told .2) ∙ c .if-ne .left) in
+    let feed = this-feed text first rest (c .if-text-gt-MOST-BYTES .left) (c .in-Some .ensures tt .0) (told .0) same this (known (c .none .result)) (c .none .ensures) in
     record {
-      feed = this-feed text first rest (c .if-text-gt-MOST-BYTES .left) (c .in-Some .ensures tt .0) (told .0) same this (known (c .none .result)) (c .none .ensures);
+      feed = feed;
       legend = this-legend text first rest (c .if-text-gt-MOST-BYTES .left) (c .in-Some .ensures tt .0) (told .0) same this (known (c .none .result)) (c .none .ensures);
+      read-back = read-back-as text _ feed;
     }
