@@ -14,7 +14,7 @@ use Rattle.std.specs.Written.{decimal}
 use Rattle.script.specs.declared.fault.Fault.{Fault}
 use Rattle.script.specs.Feed.{Feed, Ending}
 use Rattle.script.specs.Shown.{fault-text}
-use Rattle.script.specs.Text.{text-feed, text-legend}
+use Rattle.reader.specs.Text.{text-feed, text-legend}
 use Rattle.report.specs.declared.Report.{Report}
 use Rattle.report.specs.declared.Report.the-variants.{Accepted, Refused}
 

@@ -3,13 +3,13 @@ ghost use mathlib.Core.Path.{_≡_};
 ghost use Prim.Native.Nat.{_<_, _^_};
 ghost use lib.ListN.{length};
 ghost use Rattle.std.specs.Vec.{made};
-ghost use Rattle.script.specs.Text.{ended};
+ghost use Rattle.reader.specs.Text.{ended};
 ghost use Rattle.report.specs.Reported.{Counted, Reported};
 use script::fault::Fault;
 use script::fault::FaultDisplay;
 use script::source::Source;
-use script::text::LinesOfText;
-use script::text::TextSource;
+use reader::LinesOfText;
+use reader::TextSource;
 use std::alloc::AllocError;
 use std::alloc::Global;
 

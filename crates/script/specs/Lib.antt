@@ -1,10 +1,4 @@
 pub mod Feed
-pub mod Format
-pub mod Known
 pub mod Legend
-pub mod Row
 pub mod Shown
 pub mod Table
-pub mod Text
-pub mod Unread
-pub mod Writing

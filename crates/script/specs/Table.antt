@@ -10,10 +10,14 @@ use Rattle.script.specs.declared.branch.Placed.{Placed}
 use Rattle.script.specs.declared.table.TableSource.{TableSource}
 use Rattle.script.specs.Feed.{Feed}
 
+-- the record at a place
+abbrev pub placed-at : ℕ → Branch → Placed
+placed-at place b = record { branch = b; line = place + 1; byte = 0 }
+
 -- the records of a table that begins at a place
 abbrev pub placed-from : ℕ → List Branch → List Placed
 placed-from place [] = []
-placed-from place (b ∷ bs) = record { branch = b; line = place + 1; byte = 0 } ∷ placed-from (place + 1) bs
+placed-from place (b ∷ bs) = placed-at place b ∷ placed-from (place + 1) bs
 
 abbrev pub table-feed : List Branch → Feed
 table-feed records = record { items = placed-from 0 records; ending = None }

@@ -2,7 +2,8 @@
 ghost use mathlib.Core.Path.{_≡_};
 ghost use mathlib.Core.List.{[]};
 ghost use Rattle.script.specs.Feed.{Gives};
-ghost use Rattle.script.specs.Table.{table-feed, table-left};
+ghost use Prim.Native.Nat.{_+_, _^_, _<_};
+ghost use Rattle.script.specs.Table.{placed-at, table-feed, table-left};
 use crate::branch::Branch;
 use crate::branch::Placed;
 use crate::fault::Fault;
@@ -22,6 +23,18 @@ impl<'a> TableSource<'a> {
     }
 }
 
+// The record at a place: its line is the place plus 1, its byte 0.
+fn placed(branch: Branch, place: usize) -> Placed
+    requires { ⌜ place + 1 < 2 ^ 64 ⌝ }
+    ensures { λ r. ⌜ r ≡ placed-at place branch ⌝ }
+{
+    Placed {
+        branch,
+        line: place + 1,
+        byte: 0,
+    }
+}
+
 pub impl<'a> Source for TableSource<'a> as RecordsInOrder {
     ghost feed = { table-left };
 
@@ -34,10 +47,6 @@ pub impl<'a> Source for TableSource<'a> as RecordsInOrder {
         }
         let branch = self.records[place];
         self.place = place + 1;
-        Ok(Some(Placed {
-            branch,
-            line: place + 1,
-            byte: 0,
-        }))
+        Ok(Some(placed(branch, place)))
     }
 }

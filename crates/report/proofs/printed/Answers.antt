@@ -2,7 +2,7 @@ use mathlib.Core.Path.{_≡_, sym, subst}
 use Prim.Native.Nat.{_<_, _^_}
 use native.Mathlib.Omega.{arith}
 use lib.ListN.{length}
-use Rattle.script.proofs.Bounds.{text-items}
+use Rattle.reader.proofs.Bounds.{text-items}
 use Rattle.report.proofs.printed.Needs as need
 
 pub count-requires : need.count-requires

@@ -1,0 +1,17 @@
+pub mod AsMet
+pub mod Bounds
+pub mod CallNames
+pub mod Calling
+pub mod Cutting
+pub mod Digits
+pub mod LineBack
+pub mod Lines
+pub mod Numbering
+pub mod Opening
+pub mod Pieces
+pub mod ReadBack
+pub mod Rows
+pub mod Slots
+pub mod WrittenCalls
+pub mod WrittenLine
+pub mod WrittenWords
