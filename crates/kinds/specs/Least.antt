@@ -1,0 +1,36 @@
+-- Least seconds, 0 to 65,534 or never: the sum is the smaller, never last; the product adds, and
+-- 65,535 or more is never; zero is never, one and every star are 0.
+use mathlib.Core.Bool.{cond}
+use Prim.Native.Nat.{ℕ, _+_}
+use lib.Dec.{ltb}
+use Rattle.script.specs.declared.branch.Branch.{Branch}
+use Rattle.kinds.specs.Bounded.{held, smaller}
+use Rattle.kinds.specs.declared.weights.Least.{Least}
+use Rattle.kinds.specs.declared.weights.Least.the-variants.{Seconds, Never}
+
+-- So many seconds; from 65,535 on, never.
+abbrev pub seconds : ℕ → Least
+seconds n = cond (ltb n 65535) (Seconds (held 65534 n)) Never
+
+abbrev pub zero : Least
+zero = Never
+
+abbrev pub one : Least
+one = seconds 0
+
+abbrev pub plus : Least → Least → Least
+plus Never b = b
+plus (Seconds a) Never = Seconds a
+plus (Seconds a) (Seconds b) = Seconds (smaller a b)
+
+abbrev pub times : Least → Least → Least
+times Never b = Never
+times (Seconds a) Never = Never
+times (Seconds a) (Seconds b) = seconds (a .value + b .value)
+
+abbrev pub star : Least → Least
+star a = one
+
+-- A branch weighs its seconds. The one record that is out of range, at 65,535, weighs never.
+abbrev pub weight : Branch → Least
+weight b = seconds (b .seconds)

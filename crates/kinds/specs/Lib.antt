@@ -1,0 +1,6 @@
+pub mod Bounded
+pub mod Least
+pub mod Light
+pub mod Most
+-- proofs of the laws; the formulas of the kinds stand in the files above
+pub mod laws

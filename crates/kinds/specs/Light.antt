@@ -1,0 +1,24 @@
+-- Light, 0 to 65,535: the sum is the larger, the product the smaller; zero is 0, one and every
+-- star are 65,535.
+use Rattle.script.specs.declared.branch.Branch.{Branch}
+use Rattle.kinds.specs.Bounded.{held, smaller, larger}
+use Rattle.kinds.specs.declared.weights.Light.{Light}
+
+abbrev pub zero : Light
+zero = record { level = held 65535 0 }
+
+abbrev pub one : Light
+one = record { level = held 65535 65535 }
+
+abbrev pub plus : Light → Light → Light
+plus a b = record { level = larger (a .level) (b .level) }
+
+abbrev pub times : Light → Light → Light
+times a b = record { level = smaller (a .level) (b .level) }
+
+abbrev pub star : Light → Light
+star a = one
+
+-- A branch weighs its light: every record's fits.
+abbrev pub weight : Branch → Light
+weight b = record { level = held 65535 (b .light) }

@@ -1,0 +1,4 @@
+pub mod Alike
+pub mod Least
+pub mod Light
+pub mod Most

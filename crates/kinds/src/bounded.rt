@@ -1,0 +1,44 @@
+// Numbers with a bound: the smaller and the larger of two, and a number that is held at it.
+ghost use mathlib.Core.Path.{_≡_};
+ghost use mathlib.Core.Bool.{true, false};
+ghost use Rattle.kinds.specs.Bounded.{smaller, larger, held};
+use crate::weights::Bounded;
+
+impl<const TOP: u16> Bounded<TOP> {
+    // The number, or the bound where the number is past it.
+    pub fn held(value: u32) -> Bounded<TOP>
+        ensures { λ r. ⌜ r ≡ held TOP value ⌝ }
+    {
+        Bounded {
+            value: value.min(u32::from(TOP)) as u16,
+        }
+    }
+
+    pub fn smaller(self, other: Bounded<TOP>) -> Bounded<TOP>
+        ensures { λ r. ⌜ r ≡ smaller (self .entry) (other .entry) ⌝ }
+    {
+        if self.value <= other.value {
+            self
+        } else {
+            other
+        }
+    }
+
+    pub fn larger(self, other: Bounded<TOP>) -> Bounded<TOP>
+        ensures { λ r. ⌜ r ≡ larger (self .entry) (other .entry) ⌝ }
+    {
+        if self.value <= other.value {
+            other
+        } else {
+            self
+        }
+    }
+
+    // Yes exactly where the two numbers are equal.
+    pub fn same(self, other: Bounded<TOP>) -> bool
+        ensures yes { λ r. ⌜ (r ≡ true → self .entry ≡ other .entry) ⌝ }
+        ensures no { λ r. ⌜ (r ≡ false → self .entry ≡ other .entry → ⊥) ⌝ }
+    {
+        self.value == other.value
+    }
+}

@@ -1,0 +1,54 @@
+// Light: a way lets through its smallest level, and of two ways the brighter counts.
+ghost use Rattle.kinds.specs.Light.{weight};
+ghost use Rattle.kinds.specs.laws.Light.{light-algebra};
+use crate::weights::Bounded;
+use crate::weights::Light;
+use script::branch::Branch;
+use script::weighing::Weighing;
+use semiring::Semiring;
+
+pub impl Semiring for Light as LightSemiring {
+    ghost algebra = { light-algebra };
+
+    fn zero() -> Light {
+        Light {
+            level: Bounded::held(0),
+        }
+    }
+
+    fn one() -> Light {
+        Light {
+            level: Bounded::held(65535),
+        }
+    }
+
+    fn sum(self, other: Light) -> Light {
+        Light {
+            level: self.level.larger(other.level),
+        }
+    }
+
+    fn product(self, other: Light) -> Light {
+        Light {
+            level: self.level.smaller(other.level),
+        }
+    }
+
+    fn star(self) -> Light {
+        Light::one()
+    }
+
+    fn same(self, other: Light) -> bool {
+        self.level.same(other.level)
+    }
+}
+
+pub impl Weighing for Light as LightWeighing {
+    ghost weight = { weight };
+
+    fn weigh(branch: &Branch) -> Light {
+        Light {
+            level: Bounded::held(u32::from(branch.light)),
+        }
+    }
+}

@@ -1,0 +1,68 @@
+// Most seconds: a way takes the seconds of all its parts, and of two ways the longer counts.
+ghost use Rattle.kinds.specs.Most.{weight};
+ghost use Rattle.kinds.specs.laws.Most.{most-algebra};
+use crate::weights::Bounded;
+use crate::weights::Most;
+use script::branch::Branch;
+use script::weighing::Weighing;
+use semiring::Semiring;
+
+pub impl Semiring for Most as MostSemiring {
+    ghost algebra = { most-algebra };
+
+    fn zero() -> Most {
+        Most::Never
+    }
+
+    fn one() -> Most {
+        Most::Seconds(Bounded::held(0))
+    }
+
+    fn sum(self, other: Most) -> Most {
+        let Most::Seconds(a) = self else {
+            return other;
+        };
+        let Most::Seconds(b) = other else {
+            return self;
+        };
+        Most::Seconds(a.larger(b))
+    }
+
+    fn product(self, other: Most) -> Most {
+        let Most::Seconds(a) = self else {
+            return Most::Never;
+        };
+        let Most::Seconds(b) = other else {
+            return Most::Never;
+        };
+        Most::Seconds(Bounded::held(u32::from(a.value) + u32::from(b.value)))
+    }
+
+    fn star(self) -> Most {
+        match self {
+            Most::Seconds(a) if a.value > 0 => Most::Seconds(Bounded::held(65535)),
+            _ => Most::one(),
+        }
+    }
+
+    fn same(self, other: Most) -> bool {
+        match self {
+            Most::Seconds(a) => match other {
+                Most::Seconds(b) => a.same(b),
+                Most::Never => false,
+            },
+            Most::Never => match other {
+                Most::Seconds(_) => false,
+                Most::Never => true,
+            },
+        }
+    }
+}
+
+pub impl Weighing for Most as MostWeighing {
+    ghost weight = { weight };
+
+    fn weigh(branch: &Branch) -> Most {
+        Most::Seconds(Bounded::held(u32::from(branch.seconds)))
+    }
+}

@@ -1,0 +1,30 @@
+// What a weight of each kind holds. The types stand apart from their operations, since the
+// formulas of specs/ name them.
+ghost use Prim.Native.Nat.{_≤_, _<_, _^_};
+
+// A number of at most TOP.
+#[derive(Clone, Copy, PartialEq, Eq, Debug)]
+pub struct Bounded<const TOP: u16> {
+    pub value: u16,
+    ghost ok: { value ≤ TOP },
+}
+
+// The least seconds of a way: 0 to 65,534, or no way at all.
+#[derive(Clone, Copy, PartialEq, Eq, Debug)]
+pub enum Least {
+    Seconds(Bounded<65534>),
+    Never,
+}
+
+// The most seconds of a way: none at all, or 0 to 65,535, where the last stands for any more.
+#[derive(Clone, Copy, PartialEq, Eq, Debug)]
+pub enum Most {
+    Never,
+    Seconds(Bounded<65535>),
+}
+
+// A level of light, 0 to 65,535.
+#[derive(Clone, Copy, PartialEq, Eq, Debug)]
+pub struct Light {
+    pub level: Bounded<65535>,
+}
