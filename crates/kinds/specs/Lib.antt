@@ -1,4 +1,6 @@
+pub mod Bits
 pub mod Bounded
+pub mod Disc
 pub mod Least
 pub mod Light
 pub mod Most

@@ -28,3 +28,10 @@ pub enum Most {
 pub struct Light {
     pub level: Bounded<65535>,
 }
+
+// A set of stations 0 to 23: station s is bit 2^s.
+#[derive(Clone, Copy, PartialEq, Eq, Debug)]
+pub struct Disc {
+    pub bits: u32,
+    ghost ok: { bits < 2 ^ 24 },
+}

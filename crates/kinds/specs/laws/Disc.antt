@@ -1,0 +1,125 @@
+-- The disc keeps the laws of a kind: sets are equal where they have the same stations.
+use mathlib.Core.Path.{_≡_, refl, sym, ap, ap₂, subst, _∙_}
+use mathlib.Core.HLevel.{isProp→PathP}
+use mathlib.Core.Bool.{Bool, true, false, cond, not, _&&_, _||_}
+use mathlib.Core.Logic.{_⊎_, inl, inr}
+use Prim.Native.Nat.{ℕ, zero as none, suc, _+_, _-_, _*_, _/_, _%_, _^_, _<_, _≤_}
+use native.Mathlib.Bridge.{le-prop}
+use native.Mathlib.Omega.{arith}
+use lib.Dec.{eqb}
+use Rattle.std.proofs.shelf.Tests.{false≢true, or-cases, or-left, or-right, cases-eq, and-parts, and-from, eqb-true, eq-eqb, ne-eqb}
+use Rattle.semiring.specs.Algebra.{Algebra, Laws, power, powers}
+use Rattle.kinds.specs.Bits.{bits-of, any}
+use Rattle.kinds.specs.declared.weights.Disc.{Disc}
+use Rattle.kinds.specs.Disc.{has, stations, zero, only, one, plus, meets, times, divides, greatest, divisor, multiples, star}
+use Rattle.kinds.specs.laws.Bits.{bit, bits-same, bit-of, any-gives, gives-any}
+
+pub same-bits : (a b : Disc) → a .bits ≡ b .bits → a ≡ b
+same-bits a b e = λ i. record { bits = e i; ok = isProp→PathP (λ i. e i < 2 ^ 24) (λ i. le-prop {n = suc (e i)} {m = 2 ^ 24}) (a .ok) (b .ok) i }
+
+pub has-bit : (d : Disc) (t : ℕ) → bit (d .bits) t ≡ cond (has d t) 1 0
+unfolding has
+has-bit d t = go (cases-eq (bit (d .bits) t) 1)
+  where
+    go : (bit (d .bits) t ≡ 1) ⊎ (bit (d .bits) t ≡ 1 → ⊥) → bit (d .bits) t ≡ cond (eqb (bit (d .bits) t) 1) 1 0
+    go (inl e) = e ∙ ap (λ b. cond b 1 0) (sym (eq-eqb _ _ e))
+    go (inr e) = omega arith ∙ ap (λ b. cond b 1 0) (sym (ne-eqb _ _ e))
+
+pub has-stations : (p : ℕ → Bool) (t : ℕ) → t < 24 → has (stations p) t ≡ p t
+unfolding has stations
+has-stations p t h = ap (λ (n : ℕ). eqb n 1) (bit-of p 24 t h) ∙ go (p t)
+  where
+    go : (b : Bool) → eqb (cond b 1 0) 1 ≡ b
+    go true = refl
+    go false = refl
+
+-- sets with the same stations are equal
+pub same-stations : (a b : Disc) → ((t : ℕ) → t < 24 → has a t ≡ has b t) → a ≡ b
+same-stations a b same =
+    same-bits a b (bits-same 24 (a .bits) (b .bits) (a .ok) (b .ok) (λ t h. has-bit a t ∙ ap (λ x. cond x 1 0) (same t h) ∙ sym (has-bit b t)))
+
+-- each station of a is one of b
+abbrev Within : Disc → Disc → Type 0
+Within a b = (t : ℕ) → t < 24 → has a t ≡ true → has b t ≡ true
+
+both-ways : (x y : Bool) → (x ≡ true → y ≡ true) → (y ≡ true → x ≡ true) → x ≡ y
+both-ways true y f g = sym (f refl)
+both-ways false true f g = g refl
+both-ways false false f g = refl
+
+equal : (a b : Disc) → Within a b → Within b a → a ≡ b
+equal a b f g = same-stations a b (λ t h. both-ways (has a t) (has b t) (f t h) (g t h))
+
+-- the sum, by stations
+has-plus : (a b : Disc) (t : ℕ) → t < 24 → has (plus a b) t ≡ (has a t || has b t)
+has-plus a b t h = has-stations (λ t. has a t || has b t) t h
+
+or-assoc : (a b c : Bool) → ((a || b) || c) ≡ (a || (b || c))
+or-assoc true b c = refl
+or-assoc false b c = refl
+
+or-comm : (a b : Bool) → (a || b) ≡ (b || a)
+or-comm true true = refl
+or-comm true false = refl
+or-comm false true = refl
+or-comm false false = refl
+
+or-idem : (a : Bool) → (a || a) ≡ a
+or-idem true = refl
+or-idem false = refl
+
+plus-assoc : (a b c : Disc) → plus (plus a b) c ≡ plus a (plus b c)
+plus-assoc a b c =
+    same-stations _ _ (λ t h. has-plus (plus a b) c t h ∙ ap (λ x. x || has c t) (has-plus a b t h) ∙ or-assoc (has a t) (has b t) (has c t)
+      ∙ ap (λ x. has a t || x) (sym (has-plus b c t h)) ∙ sym (has-plus a (plus b c) t h))
+
+plus-comm : (a b : Disc) → plus a b ≡ plus b a
+plus-comm a b = same-stations _ _ (λ t h. has-plus a b t h ∙ or-comm (has a t) (has b t) ∙ sym (has-plus b a t h))
+
+plus-idem : (a : Disc) → plus a a ≡ a
+plus-idem a = same-stations _ _ (λ t h. has-plus a a t h ∙ or-idem (has a t))
+
+plus-zero : (a : Disc) → plus a zero ≡ a
+plus-zero a =
+    same-stations _ _ (λ t h. has-plus a zero t h ∙ ap (λ x. has a t || x) (has-stations (λ t. false) t h) ∙ or-comm (has a t) false)
+
+in-left : (a b : Disc) → Within a (plus a b)
+in-left a b t h e = has-plus a b t h ∙ or-left (has a t) (has b t) e
+
+in-right : (a b : Disc) → Within b (plus a b)
+in-right a b t h e = has-plus a b t h ∙ or-right (has a t) (has b t) e
+
+in-either : (a b : Disc) (t : ℕ) → t < 24 → has (plus a b) t ≡ true → (has a t ≡ true) ⊎ (has b t ≡ true)
+in-either a b t h e = or-cases (has a t) (has b t) (sym (has-plus a b t h) ∙ e)
+
+-- the product, by stations
+pub record Met (a b : Disc) (t : ℕ) : Type 0 where
+  pub from : ℕ
+  pub by : ℕ
+  pub from-below : from < 24
+  pub by-below : by < 24
+  pub left : has a from ≡ true
+  pub right : has b by ≡ true
+  pub reaches : (from + by) % 24 ≡ t
+
+pub meets-gives : (a b : Disc) (t : ℕ) → meets a b t ≡ true → Met a b t
+meets-gives a b t e =
+    let (s, hs, es) = any-gives 24 (λ s. any 24 (λ u. has a s && has b u && eqb ((s + u) % 24) t)) e in
+    let (u, hu, eu) = any-gives 24 (λ u. has a s && has b u && eqb ((s + u) % 24) t) es in
+    let (two, last) = and-parts (has a s && has b u) (eqb ((s + u) % 24) t) eu in
+    let (l, r) = and-parts (has a s) (has b u) two in
+    record { from = s; by = u; from-below = hs; by-below = hu; left = l; right = r; reaches = eqb-true _ _ last }
+
+pub gives-meets : (a b : Disc) (t : ℕ) → Met a b t → meets a b t ≡ true
+gives-meets a b t m =
+    gives-any 24 (λ s. any 24 (λ u. has a s && has b u && eqb ((s + u) % 24) t)) (m .from) (m .from-below)
+    (gives-any 24 (λ u. has a (m .from) && has b u && eqb ((m .from + u) % 24) t) (m .by) (m .by-below)
+    (and-from (has a (m .from) && has b (m .by)) (eqb ((m .from + m .by) % 24) t) (and-from (has a (m .from)) (has b (m .by)) (m .left) (m .right)) (eq-eqb _ _ (m .reaches))))
+
+times-gives : (a b : Disc) (t : ℕ) → t < 24 → has (times a b) t ≡ true → Met a b t
+times-gives a b t h e = meets-gives a b t (sym (has-stations (meets a b) t h) ∙ e)
+
+in-times : (a b : Disc) (s u t : ℕ) → s < 24 → u < 24 → has a s ≡ true → has b u ≡ true → (s + u) % 24 ≡ t → has (times a b) t ≡ true
+in-times a b s u t hs hu l r e =
+    has-stations (meets a b) t (omega arith)
+    ∙ gives-meets a b t (record { from = s; by = u; from-below = hs; by-below = hu; left = l; right = r; reaches = e })
