@@ -4,3 +4,4 @@ pub mod Disc
 pub mod Least
 pub mod Light
 pub mod Most
+pub mod Star
