@@ -2,11 +2,13 @@
 -- station s of the one and a station u of the other; zero is empty, one is {0}; the star has the
 -- multiples of g, the greatest common divisor of 24 and all stations.
 use mathlib.Core.Bool.{Bool, true, false, cond, not, _&&_, _||_}
-use Prim.Native.Nat.{ℕ, zero as none, suc, _+_, _/_, _%_, _^_}
+use mathlib.Core.List.{List, [], _∷_, _++_}
+use Prim.Native.Nat.{ℕ, zero as none, suc, _+_, _-_, _/_, _%_, _^_}
 use lib.Dec.{eqb}
 use Rattle.script.specs.declared.branch.Branch.{Branch}
 use Rattle.kinds.specs.Bits.{bits-of, any}
 use Rattle.kinds.specs.declared.weights.Disc.{Disc}
+use Rattle.kinds.specs.declared.weights.Multiples.{Multiples}
 use Rattle.kinds.specs.laws.Bits.{bits-of-below}
 
 -- Station s stands in the set: its bit 2^s is set.
@@ -55,6 +57,18 @@ multiples g = stations (λ t. eqb (t % g) 0)
 
 abbrev pub star : Disc → Disc
 star d = multiples (divisor d)
+
+-- A divisor with the bits of its multiples, and the table of all divisors of 24 up to n.
+abbrev pub entry : ℕ → Multiples
+entry g = record { divisor = g; bits = bits-of (λ t. eqb (t % g) 0) 24 }
+
+abbrev pub table : ℕ → List Multiples
+table none = []
+table (suc n) = cond (eqb (24 % suc n) 0) (table n ++ (entry (suc n) ∷ [])) (table n)
+
+-- The stations of d, each moved on by s.
+abbrev pub turned : ℕ → Disc → Disc
+turned s d = stations (λ t. has d ((t + 24 - s) % 24))
 
 -- A branch weighs the set of its turn. A turn of 24 or more is no station, so such a record, out of
 -- range, weighs the empty set: no way at all.

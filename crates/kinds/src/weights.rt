@@ -35,3 +35,10 @@ pub struct Disc {
     pub bits: u32,
     ghost ok: { bits < 2 ^ 24 },
 }
+
+// A divisor of 24, and the bits of its multiples among the stations.
+#[derive(Clone, Copy, PartialEq, Eq, Debug)]
+pub struct Multiples {
+    pub divisor: u8,
+    pub bits: u32,
+}

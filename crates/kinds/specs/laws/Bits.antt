@@ -1,13 +1,13 @@
 -- The bits of a number, and what is built from them.
 use mathlib.Core.Path.{_≡_, refl, sym, ap, _∙_}
-use mathlib.Core.Bool.{Bool, true, false, cond, _||_}
+use mathlib.Core.Bool.{Bool, true, false, cond, not, _||_}
 use mathlib.Core.Logic.{_⊎_, inl, inr}
 use Prim.Native.Nat.{ℕ, zero, suc, _+_, _-_, _*_, _/_, _%_, _^_, _<_, _≤_, max}
 use native.Mathlib.Nat.{pow-suc}
 use native.Mathlib.Omega.{arith}
 use lib.Pow.{shr-shr, shl-shr}
 use lib.Bits.{bitOr, or-shr, or-step, block-half, block-odd}
-use Rattle.std.proofs.shelf.Tests.{false≢true, or-cases, or-left, or-right, cases-eq}
+use Rattle.std.proofs.shelf.Tests.{false≢true, or-cases, or-left, or-right, cases-eq, cases-bool, not-true, not-from-false}
 use Rattle.kinds.specs.Bits.{bits-of, any}
 
 -- the bit 2^t of n, 0 or 1
@@ -27,11 +27,10 @@ bits-same (suc n) a b ha hb same =
     let p = pow-suc 2 n in
     let low : bit a 0 ≡ bit b 0 = same 0 (omega arith) in
     let high : a / 2 ≡ b / 2 =
-      bits-same n (a / 2) (b / 2) (omega arith) (omega arith) (λ t h. sym (bit-suc a t) ∙ same (suc t) (omega arith) ∙ bit-suc b t) in
+    bits-same n (a / 2) (b / 2) (omega arith) (omega arith) (λ t h. sym (bit-suc a t) ∙ same (suc t) (omega arith) ∙ bit-suc b t) in
     omega (arith, bit-zero a, bit-zero b)
 
 pub bits-of-below : (p : ℕ → Bool) (n : ℕ) → bits-of p n < 2 ^ n
-unfolding bits-of
 bits-of-below p zero = omega arith
 bits-of-below p (suc n) = omega (arith, bits-of-below (λ s. p (suc s)) n, pow-suc 2 n, small (p 0))
   where
@@ -40,7 +39,6 @@ bits-of-below p (suc n) = omega (arith, bits-of-below (λ s. p (suc s)) n, pow-s
     small false = omega arith
 
 pub bit-of : (p : ℕ → Bool) (n t : ℕ) → t < n → bit (bits-of p n) t ≡ cond (p t) 1 0
-unfolding bits-of
 bit-of p zero t h = absurd (omega arith)
 bit-of p (suc n) zero h = bit-zero _ ∙ go (p 0)
   where
@@ -86,3 +84,15 @@ gives-any (suc n) p k h e = go (cases-eq k n) (gives-any n p k)
     go : (k ≡ n) ⊎ (k ≡ n → ⊥) → (k < n → p k ≡ true → any n p ≡ true) → (p n || any n p) ≡ true
     go (inl here) below = or-left (p n) (any n p) (ap p (sym here) ∙ e)
     go (inr other) below = or-right (p n) (any n p) (below (omega arith) e)
+
+-- p says yes of every number below n
+unfoldable pub all : ℕ → (ℕ → Bool) → Bool
+all n p = not (any n (λ k. not (p k)))
+
+pub all-gives : (n : ℕ) (p : ℕ → Bool) → all n p ≡ true → (k : ℕ) → k < n → p k ≡ true
+unfolding all
+all-gives n p e k h = go (cases-bool (p k))
+  where
+    go : (p k ≡ true) ⊎ (p k ≡ false) → p k ≡ true
+    go (inl y) = y
+    go (inr f) = absurd (false≢true (sym (not-true (any n (λ k. not (p k))) e) ∙ gives-any n (λ k. not (p k)) k h (not-from-false (p k) f)))

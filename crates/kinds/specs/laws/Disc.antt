@@ -42,7 +42,7 @@ same-stations a b same =
 abbrev pub Within : Disc → Disc → Type 0
 Within a b = (t : ℕ) → t < 24 → has a t ≡ true → has b t ≡ true
 
-both-ways : (x y : Bool) → (x ≡ true → y ≡ true) → (y ≡ true → x ≡ true) → x ≡ y
+pub both-ways : (x y : Bool) → (x ≡ true → y ≡ true) → (y ≡ true → x ≡ true) → x ≡ y
 both-ways true y f g = sym (f refl)
 both-ways false true f g = g refl
 both-ways false false f g = refl
@@ -51,14 +51,14 @@ pub equal : (a b : Disc) → Within a b → Within b a → a ≡ b
 equal a b f g = same-stations a b (λ t h. both-ways (has a t) (has b t) (f t h) (g t h))
 
 -- the sum, by stations
-has-plus : (a b : Disc) (t : ℕ) → t < 24 → has (plus a b) t ≡ (has a t || has b t)
+pub has-plus : (a b : Disc) (t : ℕ) → t < 24 → has (plus a b) t ≡ (has a t || has b t)
 has-plus a b t h = has-stations (λ t. has a t || has b t) t h
 
 or-assoc : (a b c : Bool) → ((a || b) || c) ≡ (a || (b || c))
 or-assoc true b c = refl
 or-assoc false b c = refl
 
-or-comm : (a b : Bool) → (a || b) ≡ (b || a)
+pub or-comm : (a b : Bool) → (a || b) ≡ (b || a)
 or-comm true true = refl
 or-comm true false = refl
 or-comm false true = refl
@@ -71,7 +71,7 @@ or-idem false = refl
 pub plus-assoc : (a b c : Disc) → plus (plus a b) c ≡ plus a (plus b c)
 plus-assoc a b c =
     same-stations _ _ (λ t h. has-plus (plus a b) c t h ∙ ap (λ x. x || has c t) (has-plus a b t h) ∙ or-assoc (has a t) (has b t) (has c t)
-      ∙ ap (λ x. has a t || x) (sym (has-plus b c t h)) ∙ sym (has-plus a (plus b c) t h))
+    ∙ ap (λ x. has a t || x) (sym (has-plus b c t h)) ∙ sym (has-plus a (plus b c) t h))
 
 pub plus-comm : (a b : Disc) → plus a b ≡ plus b a
 plus-comm a b = same-stations _ _ (λ t h. has-plus a b t h ∙ or-comm (has a t) (has b t) ∙ sym (has-plus b a t h))
@@ -143,7 +143,7 @@ pub times-assoc : (a b c : Disc) → times (times a b) c ≡ times a (times b c)
 times-assoc a b c =
     equal _ _ (times-regroups a b c)
     (λ t h e. subst (λ (d : Disc). has d t ≡ true) (times-comm c (times b a) ∙ ap (λ d. times d c) (times-comm b a))
-      (times-regroups c b a t h (subst (λ (d : Disc). has d t ≡ true) (times-comm a (times b c) ∙ ap (λ d. times d a) (times-comm b c)) e)))
+    (times-regroups c b a t h (subst (λ (d : Disc). has d t ≡ true) (times-comm a (times b c) ∙ ap (λ d. times d a) (times-comm b c)) e)))
 
 pub one-gives : (u : ℕ) → u < 24 → has one u ≡ true → u ≡ 0
 one-gives u h e = eqb-true u 0 (sym (has-stations (λ t. eqb t 0) u h) ∙ e)
@@ -155,17 +155,17 @@ pub times-one : (a : Disc) → times a one ≡ a
 times-one a =
     equal _ _
     (λ t h e.
-      let m = times-gives a one t h e in
-      let at : m .from ≡ t = omega (arith, m .reaches, m .from-below, one-gives (m .by) (m .by-below) (m .right)) in
-      ap (has a) (sym at) ∙ m .left)
+    let m = times-gives a one t h e in
+    let at : m .from ≡ t = omega (arith, m .reaches, m .from-below, one-gives (m .by) (m .by-below) (m .right)) in
+    ap (has a) (sym at) ∙ m .left)
     (λ t h e. in-times a one t 0 t h (omega arith) e in-one (omega arith))
 
 pub times-zero : (a : Disc) → times a zero ≡ zero
 times-zero a =
     equal _ _
     (λ t h e.
-      let m = times-gives a zero t h e in
-      absurd (false≢true (sym (has-stations (λ t. false) (m .by) (m .by-below)) ∙ m .right)))
+    let m = times-gives a zero t h e in
+    absurd (false≢true (sym (has-stations (λ t. false) (m .by) (m .by-below)) ∙ m .right)))
     (λ t h e. absurd (false≢true (sym (has-stations (λ t. false) t h) ∙ e)))
 
 pub times-plus : (a b c : Disc) → times a (plus b c) ≡ plus (times a b) (times a c)
@@ -177,6 +177,7 @@ times-plus a b c =
     split : (t : ℕ) → t < 24 → (m : Met a (plus b c) t) → (has b (m .by) ≡ true) ⊎ (has c (m .by) ≡ true) → has (plus (times a b) (times a c)) t ≡ true
     split t h m (inl r) = in-left (times a b) (times a c) t h (in-times a b (m .from) (m .by) t (m .from-below) (m .by-below) (m .left) r (m .reaches))
     split t h m (inr r) = in-right (times a b) (times a c) t h (in-times a c (m .from) (m .by) t (m .from-below) (m .by-below) (m .left) r (m .reaches))
+
     join : (t : ℕ) → t < 24 → (has (times a b) t ≡ true) ⊎ (has (times a c) t ≡ true) → has (times a (plus b c)) t ≡ true
     join t h (inl e) =
         let m = times-gives a b t h e in

@@ -12,20 +12,8 @@ use Rattle.semiring.specs.Algebra.{Algebra, Laws, power, powers}
 use Rattle.kinds.specs.Bits.{any}
 use Rattle.kinds.specs.declared.weights.Disc.{Disc}
 use Rattle.kinds.specs.Disc.{has, zero, one, plus, times, divides, greatest, divisor, multiples, star}
-use Rattle.kinds.specs.laws.Bits.{any-gives, gives-any}
+use Rattle.kinds.specs.laws.Bits.{any-gives, gives-any, all, all-gives}
 use Rattle.kinds.specs.laws.Disc.{Within, equal, has-stations, in-left, in-right, in-either, times-gives, in-times, one-gives, in-one, plus-assoc, plus-comm, plus-idem, plus-zero, times-assoc, times-comm, times-one, times-zero, times-plus}
-
--- p says yes of every number below n
-all : ℕ → (ℕ → Bool) → Bool
-all n p = not (any n (λ k. not (p k)))
-
-all-gives : (n : ℕ) (p : ℕ → Bool) → all n p ≡ true → (k : ℕ) → k < n → p k ≡ true
-unfolding all
-all-gives n p e k h = go (cases-bool (p k))
-  where
-    go : (p k ≡ true) ⊎ (p k ≡ false) → p k ≡ true
-    go (inl y) = y
-    go (inr f) = absurd (false≢true (sym (not-true (any n (λ k. not (p k))) e) ∙ gives-any n (λ k. not (p k)) k h (not-from-false (p k) f)))
 
 -- the greatest number that passes, where k does
 greatest-passes : (p : ℕ → Bool) (n k : ℕ) → p k ≡ true → 0 < k → k ≤ n → (p (greatest p n) ≡ true) × (k ≤ greatest p n)
@@ -34,11 +22,34 @@ greatest-passes p none k e pos h = absurd (omega arith)
 greatest-passes p (suc n) k e pos h = go (p (suc n)) refl (greatest-passes p n k e pos)
   where
     go : (b : Bool) → p (suc n) ≡ b → (k ≤ n → (p (greatest p n) ≡ true) × (k ≤ greatest p n))
-      → (p (cond b (suc n) (greatest p n)) ≡ true) × (k ≤ cond b (suc n) (greatest p n))
+        → (p (cond b (suc n) (greatest p n)) ≡ true) × (k ≤ cond b (suc n) (greatest p n))
     go true y below = (y, h)
     go false f below =
         let other : k ≡ suc n → ⊥ = λ at. false≢true (sym f ∙ ap p (sym at) ∙ e) in
         below (omega (arith, other))
+
+-- some station of d is no multiple of g
+abbrev pub astray : Disc → ℕ → Bool
+astray d g = any 24 (λ s. has d s && not (eqb (s % g) 0))
+
+pub each-gives : (d : Disc) (g : ℕ) → ((s : ℕ) → s < 24 → has d s ≡ true → s % g ≡ 0) → not (astray d g) ≡ true
+each-gives d g each = go (cases-bool (astray d g))
+  where
+    go : (astray d g ≡ true) ⊎ (astray d g ≡ false) → not (astray d g) ≡ true
+    go (inl y) =
+        let (s, h, e) = any-gives 24 (λ s. has d s && not (eqb (s % g) 0)) y in
+        let (there, off) = and-parts (has d s) (not (eqb (s % g) 0)) e in
+        absurd (false≢true (sym (not-true (eqb (s % g) 0) off) ∙ eq-eqb _ _ (each s h there)))
+    go (inr f) = not-from-false _ f
+
+pub gives-each : (d : Disc) (g : ℕ) → not (astray d g) ≡ true → (s : ℕ) → s < 24 → has d s ≡ true → s % g ≡ 0
+gives-each d g e s h there = eqb-true _ _ (go (cases-bool (eqb (s % g) 0)))
+  where
+    go : (eqb (s % g) 0 ≡ true) ⊎ (eqb (s % g) 0 ≡ false) → eqb (s % g) 0 ≡ true
+    go (inl y) = y
+    go (inr f) =
+        absurd (false≢true (sym (not-true _ e)
+          ∙ gives-any 24 (λ s. has d s && not (eqb (s % g) 0)) s h (and-from (has d s) (not (eqb (s % g) 0)) there (not-from-false _ f))))
 
 -- g divides 24 and all stations of d below n
 record Common (d : Disc) (n g : ℕ) : Type 0 where
@@ -46,29 +57,12 @@ record Common (d : Disc) (n g : ℕ) : Type 0 where
   each : (s : ℕ) → s < n → has d s ≡ true → s % g ≡ 0
 
 common-gives : (d : Disc) (g : ℕ) → Common d 24 g → divides d g ≡ true
-common-gives d g c =
-    and-from (eqb (24 % g) 0) (not (any 24 (λ s. has d s && not (eqb (s % g) 0)))) (eq-eqb _ _ (c .whole))
-    (go (cases-bool (any 24 (λ s. has d s && not (eqb (s % g) 0)))))
-  where
-    go : (any 24 (λ s. has d s && not (eqb (s % g) 0)) ≡ true) ⊎ (any 24 (λ s. has d s && not (eqb (s % g) 0)) ≡ false)
-      → not (any 24 (λ s. has d s && not (eqb (s % g) 0))) ≡ true
-    go (inl y) =
-        let (s, h, e) = any-gives 24 (λ s. has d s && not (eqb (s % g) 0)) y in
-        let (there, off) = and-parts (has d s) (not (eqb (s % g) 0)) e in
-        absurd (false≢true (sym (not-true (eqb (s % g) 0) off) ∙ eq-eqb _ _ (c .each s h there)))
-    go (inr f) = not-from-false _ f
+common-gives d g c = and-from (eqb (24 % g) 0) (not (astray d g)) (eq-eqb _ _ (c .whole)) (each-gives d g (c .each))
 
 gives-common : (d : Disc) (g : ℕ) → divides d g ≡ true → Common d 24 g
 gives-common d g e =
-    let (w, none-off) = and-parts (eqb (24 % g) 0) (not (any 24 (λ s. has d s && not (eqb (s % g) 0)))) e in
-    record { whole = eqb-true _ _ w; each = λ s h there. eqb-true _ _ (go s h there none-off (cases-bool (eqb (s % g) 0))) }
-  where
-    go : (s : ℕ) → s < 24 → has d s ≡ true → not (any 24 (λ s. has d s && not (eqb (s % g) 0))) ≡ true
-      → (eqb (s % g) 0 ≡ true) ⊎ (eqb (s % g) 0 ≡ false) → eqb (s % g) 0 ≡ true
-    go s h there none-off (inl y) = y
-    go s h there none-off (inr f) =
-        absurd (false≢true (sym (not-true _ none-off)
-          ∙ gives-any 24 (λ s. has d s && not (eqb (s % g) 0)) s h (and-from (has d s) (not (eqb (s % g) 0)) there (not-from-false _ f))))
+    let (w, straight) = and-parts (eqb (24 % g) 0) (not (astray d g)) e in
+    record { whole = eqb-true _ _ w; each = gives-each d g straight }
 
 -- what divides 24 and two numbers divides their sum modulo 24
 mod-sum : (g a b : ℕ) → 24 % g ≡ 0 → a % g ≡ 0 → b % g ≡ 0 → (a + b) % 24 % g ≡ 0
@@ -95,8 +89,9 @@ back n g t i = eqb ((t + i * (24 - n)) % g) 0
 joins : ℕ → ℕ → Bool
 joins n g =
     elim (eqb (24 % g) 0) [
-      true ↦ eqb (24 % joint n g) 0 && eqb (n % joint n g) 0 && eqb (g % joint n g) 0 && all 24 (λ t. elim (eqb (t % joint n g) 0) [ true ↦ any 24 (back n g t) | false ↦ true ])
-    | false ↦ true ]
+      | true ↦ eqb (24 % joint n g) 0 && eqb (n % joint n g) 0 && eqb (g % joint n g) 0 && all 24 (λ t. elim (eqb (t % joint n g) 0) [ true ↦ any 24 (back n g t) | false ↦ true ])
+      | false ↦ true
+    ]
 
 joins-all : all 24 (λ n. all 25 (joins n)) ≡ true
 unfolding all any joins joint back greatest
@@ -117,8 +112,9 @@ unfolding joins back
 joins-give n g h w =
     let passes : joins n g ≡ true = all-gives 25 (joins n) (all-gives 24 (λ n. all 25 (joins n)) joins-all n h) g (omega (arith, divisor-le g w)) in
     let P : Bool → Type 0 = λ b. elim b [
-      true ↦ eqb (24 % joint n g) 0 && eqb (n % joint n g) 0 && eqb (g % joint n g) 0 && all 24 (λ t. elim (eqb (t % joint n g) 0) [ true ↦ any 24 (back n g t) | false ↦ true ])
-    | false ↦ true ] ≡ true in
+      | true ↦ eqb (24 % joint n g) 0 && eqb (n % joint n g) 0 && eqb (g % joint n g) 0 && all 24 (λ t. elim (eqb (t % joint n g) 0) [ true ↦ any 24 (back n g t) | false ↦ true ])
+      | false ↦ true
+    ] ≡ true in
     let (three, each) = and-parts (eqb (24 % joint n g) 0 && eqb (n % joint n g) 0 && eqb (g % joint n g) 0) (all 24 (λ t. elim (eqb (t % joint n g) 0) [ true ↦ any 24 (back n g t) | false ↦ true ])) (subst P (eq-eqb _ _ w) passes) in
     let (two, c) = and-parts (eqb (24 % joint n g) 0 && eqb (n % joint n g) 0) (eqb (g % joint n g) 0) three in
     let (a, b) = and-parts (eqb (24 % joint n g) 0) (eqb (n % joint n g) 0) two in
@@ -128,9 +124,9 @@ joins-give n g h w =
       first = eqb-true _ _ b;
       second = eqb-true _ _ c;
       steps = λ t ht e.
-        let Q : Bool → Type 0 = λ b. elim b [ true ↦ any 24 (back n g t) | false ↦ true ] ≡ true in
-        let found = any-gives 24 (back n g t) (subst Q (eq-eqb _ _ e) (all-gives 24 (λ t. elim (eqb (t % joint n g) 0) [ true ↦ any 24 (back n g t) | false ↦ true ]) each t ht)) in
-        (found .0, found .1, eqb-true _ _ (found .2));
+          let Q : Bool → Type 0 = λ b. elim b [ true ↦ any 24 (back n g t) | false ↦ true ] ≡ true in
+          let found = any-gives 24 (back n g t) (subst Q (eq-eqb _ _ e) (all-gives 24 (λ t. elim (eqb (t % joint n g) 0) [ true ↦ any 24 (back n g t) | false ↦ true ]) each t ht)) in
+          (found .0, found .1, eqb-true _ _ (found .2));
     }
 
 module _ (d : Disc) where
@@ -142,8 +138,8 @@ module _ (d : Disc) where
   within-power g c (suc k) t h e =
       let m = times-gives d (power one times d k) t h e in
       in-multiples g t h (ap (λ (m : ℕ). m % g) (sym (m .reaches))
-        ∙ mod-sum g (m .from) (m .by) (c .whole) (c .each (m .from) (m .from-below) (m .left))
-          (multiples-give g (m .by) (m .by-below) (within-power g c k (m .by) (m .by-below) (m .right))))
+      ∙ mod-sum g (m .from) (m .by) (c .whole) (c .each (m .from) (m .from-below) (m .left))
+      (multiples-give g (m .by) (m .by-below) (within-power g c k (m .by) (m .by-below) (m .right))))
 
   within-multiples : (g : ℕ) → Common d 24 g → (k : ℕ) → Within (sums k) (multiples g)
   within-multiples g c none t h e = within-power g c none t h e
@@ -160,7 +156,7 @@ module _ (d : Disc) where
       go (add-station s t k hs ht there) (in-either (sums k) (power one times d (suc k)) t ht e)
     where
       go : (has (sums k) t ≡ true → has (sums (suc k)) ((s + t) % 24) ≡ true)
-        → (has (sums k) t ≡ true) ⊎ (has (power one times d (suc k)) t ≡ true) → has (sums (suc (suc k))) ((s + t) % 24) ≡ true
+          → (has (sums k) t ≡ true) ⊎ (has (power one times d (suc k)) t ≡ true) → has (sums (suc (suc k))) ((s + t) % 24) ≡ true
       go before (inl r) = in-left (sums (suc k)) (power one times d (suc (suc k))) ((s + t) % 24) (omega arith) (before r)
       go before (inr r) =
           in-right (sums (suc k)) (power one times d (suc (suc k))) ((s + t) % 24) (omega arith)
@@ -189,8 +185,8 @@ module _ (d : Disc) where
     common = record {
       whole = b .common .whole;
       each = λ s hs there.
-        let other : s ≡ n → ⊥ = λ at. false≢true (sym off ∙ ap (has d) (sym at) ∙ there) in
-        b .common .each s (omega (arith, other)) there;
+          let other : s ≡ n → ⊥ = λ at. false≢true (sym off ∙ ap (has d) (sym at) ∙ there) in
+          b .common .each s (omega (arith, other)) there;
     };
     reached = b .reached;
   }
@@ -210,6 +206,7 @@ module _ (d : Disc) where
       each j s hs there (inr other) =
           sym (mod-mod-of-dvd (j .to) s (dvd-of-mod-eq-zero (j .to) (j .second)))
           ∙ ap (λ (m : ℕ). m % j .to) (b .common .each s (omega (arith, other)) there) ∙ zero-mod (j .to)
+
       reached : (j : Joins n (b .g)) (t : ℕ) → t < 24 → t % j .to ≡ 0 → Reached t
       reached j t ht e =
           let (i, hi, ei) = j .steps t ht e in
@@ -241,12 +238,13 @@ module _ (d : Disc) where
   together g reached (suc n) h = go (together g reached n (omega arith)) (cases-eq (n % g) 0)
     where
       join : (k m t : ℕ) → t < suc n → ((t : ℕ) → t < n → t % g ≡ 0 → has (sums k) t ≡ true) → (n % g ≡ 0 → has (sums m) n ≡ true)
-        → t % g ≡ 0 → (t ≡ n) ⊎ (t ≡ n → ⊥) → has (sums (max k m)) t ≡ true
+          → t % g ≡ 0 → (t ≡ n) ⊎ (t ≡ n → ⊥) → has (sums (max k m)) t ≡ true
       join k m t ht below here e (inl at) =
           climb m (max k m) t (omega arith) (omega arith) (ap (has (sums m)) at ∙ here (ap (λ (x : ℕ). x % g) (sym at) ∙ e))
       join k m t ht below here e (inr other) = climb k (max k m) t (omega arith) (omega arith) (below t (omega (arith, other)) e)
+
       go : (k : ℕ) × ((t : ℕ) → t < n → t % g ≡ 0 → has (sums k) t ≡ true) → (n % g ≡ 0) ⊎ (n % g ≡ 0 → ⊥)
-        → (k : ℕ) × ((t : ℕ) → t < suc n → t % g ≡ 0 → has (sums k) t ≡ true)
+          → (k : ℕ) × ((t : ℕ) → t < suc n → t % g ≡ 0 → has (sums k) t ≡ true)
       go b (inl e) =
           let r = reached n h e in
           (max (b .0) (r .0), λ t ht et. join (b .0) (r .0) t ht (b .1) (λ _. r .1) et (cases-eq t n))
@@ -264,13 +262,16 @@ module _ (d : Disc) where
       let down : divisor d ≤ b .g = le-of-dvd positive (dvd-of-mod-eq-zero (divisor d) (on-itself (b .g) k c all-in (cases-eq (b .g) 24) small)) in
       let same : divisor d ≡ b .g = omega arith in
       let full : Within (multiples (divisor d)) (sums k) =
-        λ t h e. all-in t h (ap (λ (g : ℕ). t % g) (sym same) ∙ multiples-give (divisor d) t h e) in
-      (k, equal _ _ full (within-multiples (divisor d) c k),
-        equal _ _ (λ t h e. full t h (within-multiples (divisor d) c (suc k) t h e)) (in-left (sums k) (power one times d (suc k))))
+      λ t h e. all-in t h (ap (λ (g : ℕ). t % g) (sym same) ∙ multiples-give (divisor d) t h e) in (
+        k,
+        equal _ _ full (within-multiples (divisor d) c k),
+        equal _ _ (λ t h e. full t h (within-multiples (divisor d) c (suc k) t h e)) (in-left (sums k) (power one times d (suc k))),
+      )
     where
       over-zero : (g : ℕ) → 24 % g ≡ 0 → 0 < g
       over-zero none e = absurd (omega (arith, mod-zero 24))
       over-zero (suc g) e = omega arith
+
       on-itself : (g k : ℕ) → Common d 24 (divisor d) → ((t : ℕ) → t < 24 → t % g ≡ 0 → has (sums k) t ≡ true) → (g ≡ 24) ⊎ (g ≡ 24 → ⊥) → g ≤ 24 → g % divisor d ≡ 0
       on-itself g k c all-in (inl e) h = ap (λ (x : ℕ). x % divisor d) e ∙ c .whole
       on-itself g k c all-in (inr other) h =
