@@ -89,14 +89,14 @@ module _ (d r : Disc) (s : ℕ) (h : s < 24) (is : r .bits ≡ bitOr (d .bits * 
       let at : t - s ≡ (t + 24 - s) % 24 = omega arith in
       let out : 24 + t - s ≡ 24 + (t - s) = omega arith in
       ap₂ max (over t past ∙ ap (λ (n : ℕ). bit (d .bits) n) at)
-        (over (24 + t) (omega arith) ∙ ap (λ (n : ℕ). bit (d .bits) n) out ∙ high-none (d .bits) (t - s) (d .ok)) ∙ omega arith
+      (over (24 + t) (omega arith) ∙ ap (λ (n : ℕ). bit (d .bits) n) out ∙ high-none (d .bits) (t - s) (d .ok)) ∙ omega arith
 
   turned-all : r ≡ turned s d
   unfolding moved
   turned-all =
       by-bits r (λ t. has d ((t + 24 - s) % 24))
       (λ t ht. ap (λ (n : ℕ). bit n t) is ∙ bit-or (moved % 2 ^ 24) (moved / 2 ^ 24) t
-        ∙ ap₂ max (low-bit t ht) (high-bit t) ∙ turned-bit t ht (cases-lt t s) ∙ has-bit d ((t + 24 - s) % 24))
+      ∙ ap₂ max (low-bit t ht) (high-bit t) ∙ turned-bit t ht (cases-lt t s) ∙ has-bit d ((t + 24 - s) % 24))
 
 -- the bits that `turned` makes: moved up in 64 bits, where none is lost, and what is past 23 comes round
 abbrev pub around : ℕ → ℕ → ℕ

@@ -26,7 +26,7 @@ fits d e = eqb (bitOr (d .bits) (e .bits)) (e .bits)
 fits-gives : (d : Disc) (g s : ℕ) → s < 24 → has d s ≡ true → fits d (entry g) ≡ true → s % g ≡ 0
 fits-gives d g s h there e =
     eqb-true _ _ (go (eqb (s % g) 0) (sym (bit-or (d .bits) (entry g .bits) s ∙ ap₂ max (has-bit d s ∙ ap (λ x. cond x 1 0) there) (bit-of (λ t. eqb (t % g) 0) 24 s h))
-      ∙ ap (λ (n : ℕ). bit n s) (eqb-true _ _ e) ∙ bit-of (λ t. eqb (t % g) 0) 24 s h))
+    ∙ ap (λ (n : ℕ). bit n s) (eqb-true _ _ e) ∙ bit-of (λ t. eqb (t % g) 0) 24 s h))
   where
     go : (b : Bool) → max 1 (cond b 1 0) ≡ cond b 1 0 → b ≡ true
     go true e = refl
@@ -35,11 +35,12 @@ fits-gives d g s h there e =
 gives-fits : (d : Disc) (g : ℕ) → ((s : ℕ) → s < 24 → has d s ≡ true → s % g ≡ 0) → fits d (entry g) ≡ true
 gives-fits d g all =
     eq-eqb _ _ (bits-same 24 _ _ (or-lt 24 _ _ (d .ok) below) below
-      (λ s h. bit-or (d .bits) (entry g .bits) s ∙ ap₂ max (has-bit d s) (bit-of (λ t. eqb (t % g) 0) 24 s h)
-        ∙ go (has d s) (eqb (s % g) 0) (λ there. eq-eqb _ _ (all s h there)) ∙ sym (bit-of (λ t. eqb (t % g) 0) 24 s h)))
+    (λ s h. bit-or (d .bits) (entry g .bits) s ∙ ap₂ max (has-bit d s) (bit-of (λ t. eqb (t % g) 0) 24 s h)
+    ∙ go (has d s) (eqb (s % g) 0) (λ there. eq-eqb _ _ (all s h there)) ∙ sym (bit-of (λ t. eqb (t % g) 0) 24 s h)))
   where
     below : bits-of (λ t. eqb (t % g) 0) 24 < 2 ^ 24
     below = bits-of-below (λ t. eqb (t % g) 0) 24
+
     go : (x y : Bool) → (x ≡ true → y ≡ true) → max (cond x 1 0) (cond y 1 0) ≡ cond y 1 0
     go true true f = refl
     go true false f = absurd (false≢true (f refl))
@@ -61,7 +62,7 @@ last-push d f (x ∷ es) e = last-push d (cond (fits d x) x f) es e
 
 -- one entry more
 last-more : (d : Disc) (f : Multiples) (es : List Multiples) (i : ℕ) (x : Multiples) → i < length es
-  → last d f (take (i + 1) es) ≡ cond (fits d (getD es i x)) (getD es i x) (last d f (take i es))
+    → last d f (take (i + 1) es) ≡ cond (fits d (getD es i x)) (getD es i x) (last d f (take i es))
 last-more d f es i x h = ap (last d f) (take-more es i x h) ∙ last-push d f (take i es) (getD es i x)
 
 last-table : (d : Disc) (n : ℕ) → last d (entry 1) (table (suc n)) ≡ entry (greatest (divides d) (suc n))
@@ -77,8 +78,9 @@ last-table d (suc n) = go (eqb (24 % suc (suc n)) 0) (not (astray d (suc (suc n)
     pick : (x : Bool) → cond x (entry (suc (suc n))) (entry (greatest (divides d) (suc n))) ≡ entry (cond x (suc (suc n)) (greatest (divides d) (suc n)))
     pick true = refl
     pick false = refl
+
     go : (b x : Bool) → fits d (entry (suc (suc n))) ≡ x → last d (entry 1) (table (suc n)) ≡ entry (greatest (divides d) (suc n))
-      → last d (entry 1) (cond b (table (suc n) ++ (entry (suc (suc n)) ∷ [])) (table (suc n))) ≡ entry (cond (b && x) (suc (suc n)) (greatest (divides d) (suc n)))
+        → last d (entry 1) (cond b (table (suc n) ++ (entry (suc (suc n)) ∷ [])) (table (suc n))) ≡ entry (cond (b && x) (suc (suc n)) (greatest (divides d) (suc n)))
     go true x e before =
         last-push d (entry 1) (table (suc n)) (entry (suc (suc n)))
         ∙ ap₂ (λ b m. cond b (entry (suc (suc n))) m) e before ∙ pick x

@@ -29,22 +29,22 @@ from-turned : (a b : Disc) (t s : ℕ) → s < 24 → t < 24 → has a s ≡ tru
 from-turned a b t s hs ht there =
     both-ways _ _
     (λ e.
-      let (u, hu, eu) = any-gives 24 (λ u. has a s && has b u && eqb ((s + u) % 24) t) e in
-      let (two, last) = and-parts (has a s && has b u) (eqb ((s + u) % 24) t) eu in
-      let at : (t + 24 - s) % 24 ≡ u = omega (arith, eqb-true _ _ last) in
-      ap (has b) at ∙ and-parts (has a s) (has b u) two .1)
+    let (u, hu, eu) = any-gives 24 (λ u. has a s && has b u && eqb ((s + u) % 24) t) e in
+    let (two, last) = and-parts (has a s && has b u) (eqb ((s + u) % 24) t) eu in
+    let at : (t + 24 - s) % 24 ≡ u = omega (arith, eqb-true _ _ last) in
+    ap (has b) at ∙ and-parts (has a s) (has b u) two .1)
     (λ e.
-      gives-any 24 (λ u. has a s && has b u && eqb ((s + u) % 24) t) ((t + 24 - s) % 24) (omega arith)
-      (and-from (has a s && has b ((t + 24 - s) % 24)) (eqb ((s + (t + 24 - s) % 24) % 24) t)
-        (and-from (has a s) (has b ((t + 24 - s) % 24)) there e) (eq-eqb _ _ (omega arith))))
+    gives-any 24 (λ u. has a s && has b u && eqb ((s + u) % 24) t) ((t + 24 - s) % 24) (omega arith)
+    (and-from (has a s && has b ((t + 24 - s) % 24)) (eqb ((s + (t + 24 - s) % 24) % 24) t)
+    (and-from (has a s) (has b ((t + 24 - s) % 24)) there e) (eq-eqb _ _ (omega arith))))
 
 from-none : (a b : Disc) (t s : ℕ) → has a s ≡ false → from a b t s ≡ false
 from-none a b t s off =
     both-ways _ _
     (λ e.
-      let (u, hu, eu) = any-gives 24 (λ u. has a s && has b u && eqb ((s + u) % 24) t) e in
-      let (two, last) = and-parts (has a s && has b u) (eqb ((s + u) % 24) t) eu in
-      sym off ∙ and-parts (has a s) (has b u) two .0)
+    let (u, hu, eu) = any-gives 24 (λ u. has a s && has b u && eqb ((s + u) % 24) t) e in
+    let (two, last) = and-parts (has a s && has b u) (eqb ((s + u) % 24) t) eu in
+    sym off ∙ and-parts (has a s) (has b u) two .0)
     (λ e. absurd (false≢true e))
 
 any-more : (n : ℕ) (p : ℕ → Bool) → any (n + 1) p ≡ (p n || any n p)
@@ -56,8 +56,8 @@ pub partial-turn : (a b : Disc) (s : ℕ) → s < 24 → has a s ≡ true → pl
 partial-turn a b s h there =
     same-stations _ _
     (λ t ht. has-plus (partial a b s) (turned s b) t ht
-      ∙ ap₂ _||_ (has-stations (λ t. any s (from a b t)) t ht) (has-stations (λ t. has b ((t + 24 - s) % 24)) t ht ∙ sym (from-turned a b t s h ht there))
-      ∙ or-comm (any s (from a b t)) (from a b t s) ∙ sym (any-more s (from a b t)) ∙ sym (has-stations (λ t. any (s + 1) (from a b t)) t ht))
+    ∙ ap₂ _||_ (has-stations (λ t. any s (from a b t)) t ht) (has-stations (λ t. has b ((t + 24 - s) % 24)) t ht ∙ sym (from-turned a b t s h ht there))
+    ∙ or-comm (any s (from a b t)) (from a b t s) ∙ sym (any-more s (from a b t)) ∙ sym (has-stations (λ t. any (s + 1) (from a b t)) t ht))
 
 -- it does not: nothing is added
 pub partial-skip : (a b : Disc) (s : ℕ) → has a s ≡ false → partial a b s ≡ partial a b (s + 1)
@@ -66,6 +66,6 @@ partial-skip a b s off =
 
 -- a turn of the loop, by the bits of what is gathered so far
 pub partial-more : (a b all turn next : Disc) (s : ℕ) → s < 24 → has a s ≡ true → all .bits ≡ partial a b s .bits
-  → turn ≡ turned s b → next ≡ plus all turn → next .bits ≡ partial a b (s + 1) .bits
+    → turn ≡ turned s b → next ≡ plus all turn → next .bits ≡ partial a b (s + 1) .bits
 partial-more a b all turn next s h there so-far turns sums =
     ap (λ (d : Disc). d .bits) (sums ∙ ap₂ plus (same-bits all (partial a b s) so-far) turns ∙ partial-turn a b s h there)

@@ -1,8 +1,11 @@
 -- Least seconds, 0 to 65,534 or never: the sum is the smaller, never last; the product adds, and
 -- 65,535 or more is never; zero is never, one and every star are 0.
 use mathlib.Core.Bool.{cond}
+use mathlib.Core.List.{List}
 use Prim.Native.Nat.{ℕ, _+_}
+use lib.Chars.{codes}
 use lib.Dec.{ltb}
+use Rattle.std.specs.Written.{decimal}
 use Rattle.script.specs.declared.branch.Branch.{Branch}
 use Rattle.kinds.specs.Bounded.{held, smaller}
 use Rattle.kinds.specs.declared.weights.Least.{Least}
@@ -34,3 +37,8 @@ star a = one
 -- A branch weighs its seconds. The one record that is out of range, at 65,535, weighs never.
 abbrev pub weight : Branch → Least
 weight b = seconds (b .seconds)
+
+-- Seconds print in decimal.
+abbrev pub text : Least → List ℕ
+text (Seconds a) = decimal (a .value)
+text Never = codes "never"

@@ -1,5 +1,8 @@
 -- Light, 0 to 65,535: the sum is the larger, the product the smaller; zero is 0, one and every
 -- star are 65,535.
+use mathlib.Core.List.{List}
+use Prim.Native.Nat.{ℕ}
+use Rattle.std.specs.Written.{decimal}
 use Rattle.script.specs.declared.branch.Branch.{Branch}
 use Rattle.kinds.specs.Bounded.{held, smaller, larger}
 use Rattle.kinds.specs.declared.weights.Light.{Light}
@@ -22,3 +25,7 @@ star a = one
 -- A branch weighs its light: every record's fits.
 abbrev pub weight : Branch → Light
 weight b = record { level = held 65535 (b .light) }
+
+-- Light prints in decimal.
+abbrev pub text : Light → List ℕ
+text w = decimal (w .level .value)

@@ -2,8 +2,11 @@
 -- 65,535, and never with anything is never; zero is never, one is 0; the star is 0 for never and
 -- for 0, else 65,535.
 use mathlib.Core.Bool.{cond}
+use mathlib.Core.List.{List}
 use Prim.Native.Nat.{ℕ, _+_}
-use lib.Dec.{ltb}
+use lib.Chars.{codes}
+use lib.Dec.{eqb, ltb}
+use Rattle.std.specs.Written.{decimal}
 use Rattle.script.specs.declared.branch.Branch.{Branch}
 use Rattle.kinds.specs.Bounded.{held, larger}
 use Rattle.kinds.specs.declared.weights.Most.{Most}
@@ -36,3 +39,8 @@ star (Seconds a) = cond (ltb 0 (a .value)) (seconds 65535) one
 -- A branch weighs its seconds: every record's fit.
 abbrev pub weight : Branch → Most
 weight b = seconds (b .seconds)
+
+-- Seconds print in decimal, and 65,535 as what it stands for.
+abbrev pub text : Most → List ℕ
+text Never = codes "never"
+text (Seconds a) = cond (eqb (a .value) 65535) (codes "unlimited") (decimal (a .value))

@@ -2,7 +2,10 @@
 ghost use mathlib.Core.Path.{_≡_};
 ghost use mathlib.Core.Bool.{true, false};
 ghost use Rattle.kinds.specs.Bounded.{smaller, larger, held};
+ghost use Rattle.std.specs.Written.{decimal};
+ghost use Rattle.std.specs.declared.option.Option.the-variants.{Some};
 use crate::weights::Bounded;
+use std::fmt;
 
 impl<const TOP: u16> Bounded<TOP> {
     // The number, or the bound where the number is past it.
@@ -40,5 +43,13 @@ impl<const TOP: u16> Bounded<TOP> {
         ensures no { λ r. ⌜ (r ≡ false → self .entry ≡ other .entry → ⊥) ⌝ }
     {
         self.value == other.value
+    }
+}
+
+pub impl<const TOP: u16> fmt::Display for Bounded<TOP> as BoundedDisplay {
+    ghost shown = { λ n. Some (decimal (n .value)) };
+
+    fn fmt<W: fmt::Write>(&self, f: &mut fmt::Formatter<W>) -> fmt::Result {
+        fmt::Display::fmt(&self.value, f)
     }
 }

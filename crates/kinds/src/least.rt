@@ -1,12 +1,15 @@
 // Least seconds: a way takes the seconds of all its parts, and of two ways the shorter counts.
 ghost use mathlib.Core.Path.{_≡_};
-ghost use Rattle.kinds.specs.Least.{seconds, weight};
+ghost use Rattle.kinds.specs.Least.{seconds, weight, text};
 ghost use Rattle.kinds.specs.laws.Least.{least-algebra};
+ghost use Rattle.std.specs.declared.option.Option.the-variants.{Some};
+use crate::bounded::BoundedDisplay;
 use crate::weights::Bounded;
 use crate::weights::Least;
 use script::branch::Branch;
 use script::weighing::Weighing;
 use semiring::Semiring;
+use std::fmt;
 
 impl Least {
     // So many seconds; from 65,535 on, never.
@@ -75,5 +78,16 @@ pub impl Weighing for Least as LeastWeighing {
 
     fn weigh(branch: &Branch) -> Least {
         Least::after(u32::from(branch.seconds))
+    }
+}
+
+pub impl fmt::Display for Least as LeastDisplay {
+    ghost shown = { λ w. Some (text w) };
+
+    fn fmt<W: fmt::Write>(&self, f: &mut fmt::Formatter<W>) -> fmt::Result {
+        match *self {
+            Least::Seconds(a) => fmt::Display::fmt(&a, f),
+            Least::Never => f.pad("never"),
+        }
     }
 }

@@ -1,11 +1,14 @@
 // Light: a way lets through its smallest level, and of two ways the brighter counts.
-ghost use Rattle.kinds.specs.Light.{weight};
+ghost use Rattle.kinds.specs.Light.{weight, text};
 ghost use Rattle.kinds.specs.laws.Light.{light-algebra};
+ghost use Rattle.std.specs.declared.option.Option.the-variants.{Some};
+use crate::bounded::BoundedDisplay;
 use crate::weights::Bounded;
 use crate::weights::Light;
 use script::branch::Branch;
 use script::weighing::Weighing;
 use semiring::Semiring;
+use std::fmt;
 
 pub impl Semiring for Light as LightSemiring {
     ghost algebra = { light-algebra };
@@ -50,5 +53,13 @@ pub impl Weighing for Light as LightWeighing {
         Light {
             level: Bounded::held(u32::from(branch.light)),
         }
+    }
+}
+
+pub impl fmt::Display for Light as LightDisplay {
+    ghost shown = { λ w. Some (text w) };
+
+    fn fmt<W: fmt::Write>(&self, f: &mut fmt::Formatter<W>) -> fmt::Result {
+        fmt::Display::fmt(&self.level, f)
     }
 }

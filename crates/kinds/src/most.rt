@@ -1,11 +1,14 @@
 // Most seconds: a way takes the seconds of all its parts, and of two ways the longer counts.
-ghost use Rattle.kinds.specs.Most.{weight};
+ghost use Rattle.kinds.specs.Most.{weight, text};
 ghost use Rattle.kinds.specs.laws.Most.{most-algebra};
+ghost use Rattle.std.specs.declared.option.Option.the-variants.{Some};
+use crate::bounded::BoundedDisplay;
 use crate::weights::Bounded;
 use crate::weights::Most;
 use script::branch::Branch;
 use script::weighing::Weighing;
 use semiring::Semiring;
+use std::fmt;
 
 pub impl Semiring for Most as MostSemiring {
     ghost algebra = { most-algebra };
@@ -64,5 +67,17 @@ pub impl Weighing for Most as MostWeighing {
 
     fn weigh(branch: &Branch) -> Most {
         Most::Seconds(Bounded::held(u32::from(branch.seconds)))
+    }
+}
+
+pub impl fmt::Display for Most as MostDisplay {
+    ghost shown = { λ w. Some (text w) };
+
+    fn fmt<W: fmt::Write>(&self, f: &mut fmt::Formatter<W>) -> fmt::Result {
+        match *self {
+            Most::Never => f.pad("never"),
+            Most::Seconds(a) if a.value == 65535 => f.pad("unlimited"),
+            Most::Seconds(a) => fmt::Display::fmt(&a, f),
+        }
     }
 }

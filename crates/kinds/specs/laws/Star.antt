@@ -49,7 +49,7 @@ gives-each d g e s h there = eqb-true _ _ (go (cases-bool (eqb (s % g) 0)))
     go (inl y) = y
     go (inr f) =
         absurd (false≢true (sym (not-true _ e)
-          ∙ gives-any 24 (λ s. has d s && not (eqb (s % g) 0)) s h (and-from (has d s) (not (eqb (s % g) 0)) there (not-from-false _ f))))
+        ∙ gives-any 24 (λ s. has d s && not (eqb (s % g) 0)) s h (and-from (has d s) (not (eqb (s % g) 0)) there (not-from-false _ f))))
 
 -- g divides 24 and all stations of d below n
 record Common (d : Disc) (n g : ℕ) : Type 0 where

@@ -16,8 +16,9 @@ ghost-all c = (omega (arith, c .loop-s .inv, partial (c .args .self) (c .args .o
 pub loop-s-again : need.loop-s-again
 loop-s-again c =
     elim (c .if-has .came) [
-      then-has w ↦ ap (λ (p : ℕ × Unit {0}). p .0) (w .all-is) ∙ partial-more (c .args .self) (c .args .other) _ (w .turned .result) (w .sum-all .result) (c .loop-s .s) (c .loop-s-test .taken) (sym (w .if-has .ensures tt)) (c .loop-s .inv) (w .turned .ensures) (w .sum-all .ensures)
-    | else-has w ↦ ap (λ (p : ℕ × Unit {0}). p .0) (w .all-is) ∙ c .loop-s .inv ∙ ap (λ (d : Disc). d .bits) (partial-skip (c .args .self) (c .args .other) (c .loop-s .s) (sym (w .if-has .ensures tt))) ]
+      | then-has w ↦ ap (λ (p : ℕ × Unit {0}). p .0) (w .all-is) ∙ partial-more (c .args .self) (c .args .other) _ (w .turned .result) (w .sum-all .result) (c .loop-s .s) (c .loop-s-test .taken) (sym (w .if-has .ensures tt)) (c .loop-s .inv) (w .turned .ensures) (w .sum-all .ensures)
+      | else-has w ↦ ap (λ (p : ℕ × Unit {0}). p .0) (w .all-is) ∙ c .loop-s .inv ∙ ap (λ (d : Disc). d .bits) (partial-skip (c .args .self) (c .args .other) (c .loop-s .s) (sym (w .if-has .ensures tt)))
+    ]
 
 pub ghost-all-2 : need.ghost-all-2
 ghost-all-2 c = (omega (arith, c .loop-s .inv, partial (c .args .self) (c .args .other) (c .loop-s .s) .ok), tt)

@@ -16,8 +16,9 @@ pub loop-entry-again : need.loop-entry-again
 loop-entry-again c =
     let within : c .loop-entry .entry-index < length (c .divisors-table .result) = omega (arith, ap length (c .divisors-table .ensures)) in
     elim (c .if-self-entry .came) [
-      then-self-entry w ↦ w .found-is ∙ last-taken (c .args .self) (entry 1) (c .divisors-table .result) _ _ within (w .if-self-entry .taken)
-    | else-self-entry w ↦ w .found-is ∙ c .loop-entry .inv ∙ last-passed (c .args .self) (entry 1) (c .divisors-table .result) _ (record { divisor = 0; bits = 0 }) within (w .if-self-entry .left) ]
+      | then-self-entry w ↦ w .found-is ∙ last-taken (c .args .self) (entry 1) (c .divisors-table .result) _ _ within (w .if-self-entry .taken)
+      | else-self-entry w ↦ w .found-is ∙ c .loop-entry .inv ∙ last-passed (c .args .self) (entry 1) (c .divisors-table .result) _ (record { divisor = 0; bits = 0 }) within (w .if-self-entry .left)
+    ]
 
 pub returns : need.returns
 returns c =

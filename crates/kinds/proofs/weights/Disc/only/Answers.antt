@@ -12,16 +12,20 @@ first p n e = ap (λ (p : ℕ × Unit {0}). p .0) e
 
 pub ghost-result : need.ghost-result
 ghost-result c =
-    let s : ℕ = c .args .station in
-    (elim (c .if-station-lt24 .came) [
-      then-station-lt24 w ↦
-        let below : 2 ^ s < 2 ^ 24 = pow-lt (w .if-station-lt24 .taken) in
-        omega (arith, first _ _ (w .result-is), one-shl s 32 (omega arith))
-    | else-station-lt24 w ↦ omega (arith, first _ _ (w .result-is)) ], tt)
+    let s : ℕ = c .args .station in (
+      elim (c .if-station-lt24 .came) [
+        | then-station-lt24 w ↦
+            let below : 2 ^ s < 2 ^ 24 = pow-lt (w .if-station-lt24 .taken) in
+            omega (arith, first _ _ (w .result-is), one-shl s 32 (omega arith))
+        | else-station-lt24 w ↦ omega (arith, first _ _ (w .result-is))
+      ],
+      tt,
+    )
 
 pub returns : need.returns
 returns c =
     let s : ℕ = c .args .station in
     elim (c .if-station-lt24 .came) [
-      then-station-lt24 w ↦ only-is s _ (w .if-station-lt24 .taken) (first _ _ (w .result-is) ∙ one-shl s 32 (omega arith))
-    | else-station-lt24 w ↦ no-station s _ (w .if-station-lt24 .left) (first _ _ (w .result-is)) ]
+      | then-station-lt24 w ↦ only-is s _ (w .if-station-lt24 .taken) (first _ _ (w .result-is) ∙ one-shl s 32 (omega arith))
+      | else-station-lt24 w ↦ no-station s _ (w .if-station-lt24 .left) (first _ _ (w .result-is))
+    ]
