@@ -5,6 +5,7 @@ use mathlib.Core.Bool.{Bool, true, false, cond, not, _&&_, _||_}
 use mathlib.Core.List.{List, [], _∷_, _++_}
 use Prim.Native.Nat.{ℕ, zero as none, suc, _+_, _-_, _/_, _%_, _^_}
 use lib.Dec.{eqb}
+use Rattle.std.specs.Written.{glyph}
 use Rattle.script.specs.declared.branch.Branch.{Branch}
 use Rattle.kinds.specs.Bits.{bits-of, any}
 use Rattle.kinds.specs.declared.weights.Disc.{Disc}
@@ -74,3 +75,12 @@ turned s d = stations (λ t. has d ((t + 24 - s) % 24))
 -- range, weighs the empty set: no way at all.
 abbrev pub weight : Branch → Disc
 weight b = only (b .turn)
+
+-- The last k hexadecimal digits of n, in lower case, the highest first; a set prints as the six of
+-- its bits.
+abbrev pub hex : ℕ → ℕ → List ℕ
+hex none n = []
+hex (suc k) n = glyph false (n / 16 ^ k % 16) ∷ hex k n
+
+abbrev pub text : Disc → List ℕ
+text d = hex 6 (d .bits)

@@ -1,13 +1,18 @@
 // The disc: a way turns it by the sum of its parts, modulo 24, and all ways count.
 ghost use mathlib.Core.Path.{_≡_};
-ghost use Prim.Native.Nat.{_<_};
-ghost use Rattle.kinds.specs.Disc.{has, only, turned, divisor, entry, table, weight};
+ghost use Prim.Native.Nat.{_<_, _%_};
+ghost use Rattle.kinds.specs.Disc.{has, only, turned, divisor, entry, table, weight, text};
 ghost use Rattle.kinds.specs.laws.Star.{disc-algebra};
+ghost use mathlib.Core.Bool.{false};
+ghost use Rattle.std.specs.declared.option.Option.the-variants.{Some};
+ghost use Rattle.std.specs.Reads.{value};
+ghost use Rattle.std.specs.Written.{glyph};
 use crate::weights::Disc;
 use crate::weights::Multiples;
 use script::branch::Branch;
 use script::weighing::Weighing;
 use semiring::Semiring;
+use std::fmt;
 
 // The divisors of 24, each with the bits of its multiples among 0 to 23.
 const TABLE: [Multiples; 8] = [
@@ -50,6 +55,18 @@ fn divisors() -> [Multiples; 8]
     ensures { λ r. ⌜ r ≡ table 24 ⌝ }
 {
     TABLE
+}
+
+// The last hexadecimal digit of a number.
+fn digit(number: u32) -> char
+    ensures { λ r. ⌜ r ≡ glyph false (number % 16) ⌝ }
+{
+    let value = (number % 16) as u8;
+    if value < 10 {
+        (b'0' + value) as char
+    } else {
+        (b'a' + (value - 10)) as char
+    }
 }
 
 impl Disc {
@@ -96,6 +113,22 @@ impl Disc {
             }
         }
         found
+    }
+
+    // The six hexadecimal digits of the set: read as a number they give its bits again.
+    pub fn digits(self) -> [char; 6]
+        ensures text { λ r. ⌜ r ≡ text self ⌝ }
+        ensures back { λ r. ⌜ value 16 r ≡ self .bits ⌝ }
+    {
+        let bits = self.bits;
+        [
+            digit(bits >> 20),
+            digit(bits >> 16),
+            digit(bits >> 12),
+            digit(bits >> 8),
+            digit(bits >> 4),
+            digit(bits),
+        ]
     }
 
     // The greatest common divisor of 24 and all stations.
@@ -149,5 +182,14 @@ pub impl Weighing for Disc as DiscWeighing {
 
     fn weigh(branch: &Branch) -> Disc {
         Disc::only(branch.turn)
+    }
+}
+
+pub impl fmt::Display for Disc as DiscDisplay {
+    ghost shown = { λ w. Some (text w) };
+
+    fn fmt<W: fmt::Write>(&self, f: &mut fmt::Formatter<W>) -> fmt::Result {
+        let [a, b, c, d, e, g] = self.digits();
+        write!(f, "{a}{b}{c}{d}{e}{g}")
     }
 }
