@@ -1,6 +1,7 @@
 pub mod Bits
 pub mod Bounded
 pub mod Disc
+pub mod Figures
 pub mod Least
 pub mod Light
 pub mod Most
