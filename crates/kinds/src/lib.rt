@@ -5,4 +5,6 @@ pub mod figures;
 pub mod least;
 pub mod light;
 pub mod most;
+#[cfg(test)]
+mod tests;
 pub mod weights;
