@@ -30,7 +30,7 @@ impl<const TOP: u16> Bounded<TOP> {
     pub fn larger(self, other: Bounded<TOP>) -> Bounded<TOP>
         ensures { λ r. ⌜ r ≡ larger (self .entry) (other .entry) ⌝ }
     {
-        if self.value <= other.value {
+        if self.value < other.value {
             other
         } else {
             self
