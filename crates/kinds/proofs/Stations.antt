@@ -43,6 +43,11 @@ union-is a b d e =
     either false true = refl
     either false false = refl
 
+pub union-bits : (a b : Disc) → bitOr (a .bits) (b .bits) ≡ plus a b .bits
+union-bits a b =
+    let d : Disc = record { bits = bitOr (a .bits) (b .bits); ok = or-lt 24 _ _ (a .ok) (b .ok) } in
+    ap (λ (d : Disc). d .bits) (union-is a b d refl)
+
 -- one station is one bit: computed for all of them
 lone : ℕ → Bool
 lone s = eqb (2 ^ s) (only s .bits)

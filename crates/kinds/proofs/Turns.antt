@@ -5,13 +5,15 @@ use mathlib.Core.Logic.{_⊎_, inl, inr}
 use Prim.Native.Nat.{ℕ, zero as none, suc, _+_, _-_, _%_, _<_, _≤_}
 use native.Mathlib.Omega.{arith}
 use native.Mathlib.Numerals.{add-one}
+use lib.Bits.{bitOr}
 use lib.Dec.{eqb}
 use Rattle.std.proofs.shelf.Tests.{false≢true, and-parts, and-from, eqb-true, eq-eqb}
 use Rattle.kinds.specs.Bits.{any}
 use Rattle.kinds.specs.declared.weights.Disc.{Disc}
 use Rattle.kinds.specs.Disc.{has, stations, zero, plus, times, turned}
 use Rattle.kinds.specs.laws.Bits.{any-gives, gives-any}
-use Rattle.kinds.specs.laws.Disc.{same-bits, same-stations, has-stations, has-plus, or-comm, both-ways}
+use Rattle.kinds.proofs.Stations.{union-bits}
+use Rattle.kinds.specs.laws.Disc.{same-stations, has-stations, has-plus, or-comm, both-ways}
 
 -- t is (s + u) mod 24 of some u of b, where s is a station of a
 abbrev from : Disc → Disc → ℕ → ℕ → Bool
@@ -65,7 +67,7 @@ partial-skip a b s off =
     ap stations (fun-ext (λ t. sym (any-more s (from a b t) ∙ ap (λ x. x || any s (from a b t)) (from-none a b t s off))))
 
 -- a turn of the loop, by the bits of what is gathered so far
-pub partial-more : (a b all turn next : Disc) (s : ℕ) → s < 24 → has a s ≡ true → all .bits ≡ partial a b s .bits
-    → turn ≡ turned s b → next ≡ plus all turn → next .bits ≡ partial a b (s + 1) .bits
-partial-more a b all turn next s h there so-far turns sums =
-    ap (λ (d : Disc). d .bits) (sums ∙ ap₂ plus (same-bits all (partial a b s) so-far) turns ∙ partial-turn a b s h there)
+pub partial-more : (a b turn : Disc) (all s : ℕ) → s < 24 → has a s ≡ true → all ≡ partial a b s .bits → turn ≡ turned s b
+    → bitOr all (turn .bits) ≡ partial a b (s + 1) .bits
+partial-more a b turn all s h there so-far turns =
+    ap₂ bitOr so-far (ap (λ (d : Disc). d .bits) turns) ∙ union-bits (partial a b s) (turned s b) ∙ ap (λ (d : Disc). d .bits) (partial-turn a b s h there)

@@ -13,7 +13,7 @@ use Rattle.kinds.specs.declared.weights.Multiples.{Multiples}
 use Rattle.kinds.specs.laws.Bits.{bits-of-below}
 
 -- Station s stands in the set: its bit 2^s is set.
-unfoldable pub has : Disc → ℕ → Bool
+abbrev pub has : Disc → ℕ → Bool
 has d s = eqb (d .bits / 2 ^ s % 2) 1
 
 -- The set of the stations of which p says yes.

@@ -7,11 +7,15 @@ use Rattle.script.specs.declared.branch.Branch.{Branch}
 use Rattle.kinds.specs.Bounded.{held, smaller, larger}
 use Rattle.kinds.specs.declared.weights.Light.{Light}
 
+-- A level of light, held at 65,535.
+abbrev pub light : ℕ → Light
+light n = record { level = held 65535 n }
+
 abbrev pub zero : Light
-zero = record { level = held 65535 0 }
+zero = light 0
 
 abbrev pub one : Light
-one = record { level = held 65535 65535 }
+one = light 65535
 
 abbrev pub plus : Light → Light → Light
 plus a b = record { level = larger (a .level) (b .level) }
@@ -24,7 +28,7 @@ star a = one
 
 -- A branch weighs its light: every record's fits.
 abbrev pub weight : Branch → Light
-weight b = record { level = held 65535 (b .light) }
+weight b = light (b .light)
 
 -- Light prints in decimal.
 abbrev pub text : Light → List ℕ

@@ -9,7 +9,7 @@ use std::fmt;
 
 impl<const TOP: u16> Bounded<TOP> {
     // The number, or the bound where the number is past it.
-    pub fn held(value: u32) -> Bounded<TOP>
+    pub(crate) fn held(value: u32) -> Bounded<TOP>
         ensures { λ r. ⌜ r ≡ held TOP value ⌝ }
     {
         Bounded {
@@ -17,7 +17,7 @@ impl<const TOP: u16> Bounded<TOP> {
         }
     }
 
-    pub fn smaller(self, other: Bounded<TOP>) -> Bounded<TOP>
+    pub(crate) fn smaller(self, other: Bounded<TOP>) -> Bounded<TOP>
         ensures { λ r. ⌜ r ≡ smaller (self .entry) (other .entry) ⌝ }
     {
         if self.value <= other.value {
@@ -27,7 +27,7 @@ impl<const TOP: u16> Bounded<TOP> {
         }
     }
 
-    pub fn larger(self, other: Bounded<TOP>) -> Bounded<TOP>
+    pub(crate) fn larger(self, other: Bounded<TOP>) -> Bounded<TOP>
         ensures { λ r. ⌜ r ≡ larger (self .entry) (other .entry) ⌝ }
     {
         if self.value < other.value {
@@ -38,7 +38,7 @@ impl<const TOP: u16> Bounded<TOP> {
     }
 
     // Yes exactly where the two numbers are equal.
-    pub fn same(self, other: Bounded<TOP>) -> bool
+    pub(crate) fn same(self, other: Bounded<TOP>) -> bool
         ensures yes { λ r. ⌜ (r ≡ true → self .entry ≡ other .entry) ⌝ }
         ensures no { λ r. ⌜ (r ≡ false → self .entry ≡ other .entry → ⊥) ⌝ }
     {

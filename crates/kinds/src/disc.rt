@@ -1,7 +1,7 @@
 // The disc: a way turns it by the sum of its parts, modulo 24, and all ways count.
 ghost use mathlib.Core.Path.{_≡_};
 ghost use Prim.Native.Nat.{_<_, _%_};
-ghost use Rattle.kinds.specs.Disc.{has, only, turned, divisor, entry, table, weight, text};
+ghost use Rattle.kinds.specs.Disc.{has, only, times, turned, divisor, entry, table, weight, text};
 ghost use Rattle.kinds.specs.laws.Star.{disc-algebra};
 ghost use mathlib.Core.Bool.{false};
 ghost use Rattle.std.specs.declared.option.Option.the-variants.{Some};
@@ -100,6 +100,19 @@ impl Disc {
         }
     }
 
+    // The bits of the product: the other set, turned by each station of this one.
+    fn turns(self, other: Disc) -> u32
+        ensures { λ r. ⌜ r ≡ times self other .bits ⌝ }
+    {
+        let mut all = 0;
+        for s in 0..24 {
+            if self.has(s) {
+                all |= other.turned(s).bits;
+            }
+        }
+        all
+    }
+
     // The greatest common divisor of 24 and all stations, with its multiples: of the table's
     // entries that have all stations, the last.
     fn closing(self) -> Multiples
@@ -157,13 +170,9 @@ pub impl Semiring for Disc as DiscSemiring {
     }
 
     fn product(self, other: Disc) -> Disc {
-        let mut all = Disc { bits: 0 };
-        for s in 0..24 {
-            if self.has(s) {
-                all = all.sum(other.turned(s));
-            }
+        Disc {
+            bits: self.turns(other),
         }
-        all
     }
 
     fn star(self) -> Disc {

@@ -13,11 +13,11 @@ use std::fmt;
 
 impl Least {
     // So many seconds; from 65,535 on, never.
-    pub fn after(seconds: u32) -> Least
-        ensures { λ r. ⌜ r ≡ Rattle.kinds.specs.Least.seconds seconds ⌝ }
+    pub fn after(time: u32) -> Least
+        ensures { λ r. ⌜ r ≡ seconds time ⌝ }
     {
-        if seconds < 65535 {
-            Least::Seconds(Bounded::held(seconds))
+        if time < 65535 {
+            Least::Seconds(Bounded::held(time))
         } else {
             Least::Never
         }
@@ -32,7 +32,7 @@ pub impl Semiring for Least as LeastSemiring {
     }
 
     fn one() -> Least {
-        Least::Seconds(Bounded::held(0))
+        Least::after(0)
     }
 
     fn sum(self, other: Least) -> Least {

@@ -1,5 +1,6 @@
 // Light: a way lets through its smallest level, and of two ways the brighter counts.
-ghost use Rattle.kinds.specs.Light.{weight, text};
+ghost use mathlib.Core.Path.{_≡_};
+ghost use Rattle.kinds.specs.Light.{light, weight, text};
 ghost use Rattle.kinds.specs.laws.Light.{light-algebra};
 ghost use Rattle.std.specs.declared.option.Option.the-variants.{Some};
 use crate::bounded::BoundedDisplay;
@@ -10,19 +11,26 @@ use script::weighing::Weighing;
 use semiring::Semiring;
 use std::fmt;
 
+impl Light {
+    // A level of light, held at 65,535.
+    pub fn of(level: u32) -> Light
+        ensures { λ r. ⌜ r ≡ light level ⌝ }
+    {
+        Light {
+            level: Bounded::held(level),
+        }
+    }
+}
+
 pub impl Semiring for Light as LightSemiring {
     ghost algebra = { light-algebra };
 
     fn zero() -> Light {
-        Light {
-            level: Bounded::held(0),
-        }
+        Light::of(0)
     }
 
     fn one() -> Light {
-        Light {
-            level: Bounded::held(65535),
-        }
+        Light::of(65535)
     }
 
     fn sum(self, other: Light) -> Light {
@@ -50,9 +58,7 @@ pub impl Weighing for Light as LightWeighing {
     ghost weight = { weight };
 
     fn weigh(branch: &Branch) -> Light {
-        Light {
-            level: Bounded::held(u32::from(branch.light)),
-        }
+        Light::of(u32::from(branch.light))
     }
 }
 

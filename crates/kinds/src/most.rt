@@ -1,5 +1,6 @@
 // Most seconds: a way takes the seconds of all its parts, and of two ways the longer counts.
-ghost use Rattle.kinds.specs.Most.{weight, text};
+ghost use mathlib.Core.Path.{_≡_};
+ghost use Rattle.kinds.specs.Most.{seconds, weight, text};
 ghost use Rattle.kinds.specs.laws.Most.{most-algebra};
 ghost use Rattle.std.specs.declared.option.Option.the-variants.{Some};
 use crate::bounded::BoundedDisplay;
@@ -10,6 +11,15 @@ use script::weighing::Weighing;
 use semiring::Semiring;
 use std::fmt;
 
+impl Most {
+    // So many seconds, held at 65,535.
+    pub fn after(time: u32) -> Most
+        ensures { λ r. ⌜ r ≡ seconds time ⌝ }
+    {
+        Most::Seconds(Bounded::held(time))
+    }
+}
+
 pub impl Semiring for Most as MostSemiring {
     ghost algebra = { most-algebra };
 
@@ -18,7 +28,7 @@ pub impl Semiring for Most as MostSemiring {
     }
 
     fn one() -> Most {
-        Most::Seconds(Bounded::held(0))
+        Most::after(0)
     }
 
     fn sum(self, other: Most) -> Most {
@@ -38,12 +48,12 @@ pub impl Semiring for Most as MostSemiring {
         let Most::Seconds(b) = other else {
             return Most::Never;
         };
-        Most::Seconds(Bounded::held(u32::from(a.value) + u32::from(b.value)))
+        Most::after(u32::from(a.value) + u32::from(b.value))
     }
 
     fn star(self) -> Most {
         match self {
-            Most::Seconds(a) if a.value > 0 => Most::Seconds(Bounded::held(65535)),
+            Most::Seconds(a) if a.value > 0 => Most::after(65535),
             _ => Most::one(),
         }
     }
@@ -66,7 +76,7 @@ pub impl Weighing for Most as MostWeighing {
     ghost weight = { weight };
 
     fn weigh(branch: &Branch) -> Most {
-        Most::Seconds(Bounded::held(u32::from(branch.seconds)))
+        Most::after(u32::from(branch.seconds))
     }
 }
 

@@ -11,7 +11,6 @@ use crate::light::LightWeighing;
 use crate::most::MostDisplay;
 use crate::most::MostSemiring;
 use crate::most::MostWeighing;
-use crate::weights::Bounded;
 use crate::weights::Disc;
 use crate::weights::Least;
 use crate::weights::Light;
@@ -20,16 +19,6 @@ use script::branch::Branch;
 use script::weighing::Weighing;
 use semiring::Semiring;
 use std::test::*;
-
-fn most(seconds: u32) -> Most {
-    Most::Seconds(Bounded::held(seconds))
-}
-
-fn light(level: u32) -> Light {
-    Light {
-        level: Bounded::held(level),
-    }
-}
 
 fn branch(seconds: u16, turn: u8) -> Branch {
     Branch {
@@ -55,20 +44,24 @@ fn least_ends_below_65535() -> Result<(), Fail> {
 
 #[test]
 fn most_is_held_at_65535() -> Result<(), Fail> {
-    let long = most(65000);
-    check(long.product(most(534)).same(most(65534)))?;
-    check(long.product(most(600)).same(most(65535)))?;
+    let long = Most::after(65000);
+    check(long.product(Most::after(534)).same(Most::after(65534)))?;
+    check(long.product(Most::after(600)).same(Most::after(65535)))?;
     check(long.product(Most::zero()).same(Most::zero()))?;
-    check(most(0).star().same(Most::one()))?;
-    check(most(1).star().same(most(65535)))?;
+    check(Most::after(0).star().same(Most::one()))?;
+    check(Most::after(1).star().same(Most::after(65535)))?;
     check(Most::zero().star().same(Most::one()))
 }
 
 #[test]
 fn light_between_its_ends() -> Result<(), Fail> {
-    check(Light::zero().sum(light(1)).same(light(1)))?;
-    check(Light::one().product(light(65534)).same(light(65534)))?;
-    check(light(0).star().same(Light::one()))
+    check(Light::zero().sum(Light::of(1)).same(Light::of(1)))?;
+    check(
+        Light::one()
+            .product(Light::of(65534))
+            .same(Light::of(65534)),
+    )?;
+    check(Light::of(0).star().same(Light::one()))
 }
 
 #[test]
@@ -88,7 +81,7 @@ fn branches_at_the_ends() -> Result<(), Fail> {
     let (inside, outside) = (branch(65534, 23), branch(65535, 24));
     check(Least::weigh(&inside).same(Least::after(65534)))?;
     check(Least::weigh(&outside).same(Least::zero()))?;
-    check(Most::weigh(&outside).same(most(65535)))?;
+    check(Most::weigh(&outside).same(Most::after(65535)))?;
     check(Light::weigh(&outside).same(Light::one()))?;
     check(Disc::weigh(&inside).same(Disc::only(23)))?;
     check(Disc::weigh(&outside).same(Disc::zero()))
@@ -102,7 +95,7 @@ fn prints(rt: LibcRuntime) -> Result<(), Fail> {
         "65534 never",
     )?;
     check_eq(
-        format!(heap, "{} {}", most(65534), most(65535))?.as_str(),
+        format!(heap, "{} {}", Most::after(65534), Most::after(65535))?.as_str(),
         "65534 unlimited",
     )?;
     check_eq(

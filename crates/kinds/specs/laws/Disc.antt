@@ -18,7 +18,6 @@ pub same-bits : (a b : Disc) → a .bits ≡ b .bits → a ≡ b
 same-bits a b e = λ i. record { bits = e i; ok = isProp→PathP (λ i. e i < 2 ^ 24) (λ i. le-prop {n = suc (e i)} {m = 2 ^ 24}) (a .ok) (b .ok) i }
 
 pub has-bit : (d : Disc) (t : ℕ) → bit (d .bits) t ≡ cond (has d t) 1 0
-unfolding has
 has-bit d t = go (cases-eq (bit (d .bits) t) 1)
   where
     go : (bit (d .bits) t ≡ 1) ⊎ (bit (d .bits) t ≡ 1 → ⊥) → bit (d .bits) t ≡ cond (eqb (bit (d .bits) t) 1) 1 0
@@ -26,7 +25,7 @@ has-bit d t = go (cases-eq (bit (d .bits) t) 1)
     go (inr e) = omega arith ∙ ap (λ b. cond b 1 0) (sym (ne-eqb _ _ e))
 
 pub has-stations : (p : ℕ → Bool) (t : ℕ) → t < 24 → has (stations p) t ≡ p t
-unfolding has stations
+unfolding stations
 has-stations p t h = ap (λ (n : ℕ). eqb n 1) (bit-of p 24 t h) ∙ go (p t)
   where
     go : (b : Bool) → eqb (cond b 1 0) 1 ≡ b

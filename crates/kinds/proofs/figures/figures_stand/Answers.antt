@@ -7,5 +7,5 @@ use Rattle.kinds.specs.laws.Disc.{same-bits}
 use Rattle.kinds.proofs.figures.figures_stand.Needs as need
 
 pub returns : need.returns
-unfolding has stations greatest any
+unfolding stations greatest any
 returns c = (refl, (refl, (ap Seconds (alike _ _ refl), (refl, (refl, (same-bits _ _ refl, (refl, (refl, tt))))))))
