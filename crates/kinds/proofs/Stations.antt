@@ -6,9 +6,9 @@ use Prim.Native.Nat.{ℕ, zero as none, suc, _+_, _-_, _*_, _/_, _%_, _^_, _<_, 
 use native.Mathlib.Nat.{div-add-mod', zero-div, add-zero, lt-of-lt-of-le}
 use native.Mathlib.Omega.{arith}
 use lib.Bits.{bitOr, or-lt}
-use lib.Dec.{eqb}
-use lib.Pow.{shr-shr, shl-lt, shl-exact, pow-mono}
-use Rattle.std.proofs.shelf.Tests.{cases-lt, eqb-true, ne-eqb}
+use lib.Dec.{eqb, ltb}
+use lib.Pow.{shr-shr, shl-lt, shl-exact, pow-mono, pow-lt}
+use Rattle.std.proofs.shelf.Tests.{cases-lt, cases-bool, cond-true, cond-false, cond-both, eqb-true, ltb-true, ltb-false, ne-eqb}
 use Rattle.kinds.specs.Bits.{any}
 use Rattle.kinds.specs.declared.weights.Disc.{Disc}
 use Rattle.kinds.specs.Disc.{has, stations, zero, only, plus, turned}
@@ -56,13 +56,19 @@ lone-all : all 24 lone ≡ true
 unfolding all any lone stations
 lone-all = refl
 
-pub only-is : (s : ℕ) (d : Disc) → s < 24 → d .bits ≡ 2 ^ s → d ≡ only s
-unfolding lone
-only-is s d h e = same-bits d (only s) (e ∙ eqb-true (2 ^ s) (only s .bits) (all-gives 24 lone lone-all s h))
+pub lone-below : (s : ℕ) → cond (ltb s 24) (2 ^ s) 0 < 2 ^ 24
+lone-below s = cond-both (ltb s 24) (2 ^ s) 0 (λ n. n < 2 ^ 24) (λ e. pow-lt (ltb-true s 24 e)) (λ e. omega arith)
 
-pub no-station : (s : ℕ) (d : Disc) → 24 ≤ s → d .bits ≡ 0 → d ≡ only s
-no-station s d h e =
-    zero-is d e ∙ same-stations _ _ (λ t ht. has-stations (λ t. false) t ht ∙ sym (has-stations (λ t. eqb t s) t ht ∙ ne-eqb t s (λ at. omega arith)))
+pub only-bits : (s : ℕ) (d : Disc) → d .bits ≡ cond (ltb s 24) (2 ^ s) 0 → d ≡ only s
+unfolding lone
+only-bits s d is = go (cases-bool (ltb s 24))
+  where
+    go : (ltb s 24 ≡ true) ⊎ (ltb s 24 ≡ false) → d ≡ only s
+    go (inl e) =
+        same-bits d (only s) (is ∙ cond-true _ _ _ e ∙ eqb-true (2 ^ s) (only s .bits) (all-gives 24 lone lone-all s (ltb-true s 24 e)))
+    go (inr e) =
+        zero-is d (is ∙ cond-false _ _ _ e)
+        ∙ same-stations _ _ (λ t h. has-stations (λ t. false) t h ∙ sym (has-stations (λ t. eqb t s) t h ∙ ne-eqb t s (λ at. omega (arith, ltb-false s 24 e))))
 
 high-none : (n j : ℕ) → n < 2 ^ 24 → bit n (24 + j) ≡ 0
 high-none n j h = ap (λ (m : ℕ). m % 2) (sym (shr-shr n 24 j) ∙ ap (λ (m : ℕ). m / 2 ^ j) (omega arith) ∙ zero-div (2 ^ j))

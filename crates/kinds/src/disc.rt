@@ -1,9 +1,10 @@
 // The disc: a way turns it by the sum of its parts, modulo 24, and all ways count.
 ghost use mathlib.Core.Path.{_≡_};
-ghost use Prim.Native.Nat.{_<_, _%_};
+ghost use Prim.Native.Nat.{_<_, _%_, _^_};
 ghost use Rattle.kinds.specs.Disc.{has, only, times, turned, divisor, entry, table, weight, text};
 ghost use Rattle.kinds.specs.laws.Star.{disc-algebra};
-ghost use mathlib.Core.Bool.{false};
+ghost use mathlib.Core.Bool.{false, cond};
+ghost use lib.Dec.{ltb};
 ghost use Rattle.std.specs.declared.option.Option.the-variants.{Some};
 ghost use Rattle.std.specs.Reads.{value};
 ghost use Rattle.std.specs.Written.{glyph};
@@ -57,6 +58,13 @@ fn divisors() -> [Multiples; 8]
     TABLE
 }
 
+// The bit of a station, and none past 23.
+fn bit(station: u8) -> u32
+    ensures { λ r. ⌜ r ≡ cond (ltb station 24) (2 ^ station) 0 ⌝ }
+{
+    if station < 24 { 1 << station } else { 0 }
+}
+
 // The last hexadecimal digit of a number.
 fn digit(number: u32) -> char
     ensures { λ r. ⌜ r ≡ glyph false (number % 16) ⌝ }
@@ -74,11 +82,7 @@ impl Disc {
     pub fn only(station: u8) -> Disc
         ensures { λ r. ⌜ r ≡ only station ⌝ }
     {
-        if station < 24 {
-            Disc { bits: 1 << station }
-        } else {
-            Disc { bits: 0 }
-        }
+        Disc { bits: bit(station) }
     }
 
     // Whether a station stands in the set.
