@@ -5,5 +5,6 @@ pub mod Figures
 pub mod Least
 pub mod Light
 pub mod Most
+pub mod Stations
 -- proofs of the laws; the formulas of the kinds stand in the files above
 pub mod laws

@@ -2,6 +2,7 @@
 ghost use mathlib.Core.Path.{_≡_};
 ghost use Prim.Native.Nat.{_<_, _%_, _^_};
 ghost use Rattle.kinds.specs.Disc.{has, only, times, turned, divisor, entry, table, weight, text};
+ghost use Rattle.kinds.specs.Stations.{Stations};
 ghost use Rattle.kinds.specs.laws.Star.{disc-algebra};
 ghost use mathlib.Core.Bool.{false, cond};
 ghost use lib.Dec.{ltb};
@@ -14,6 +15,11 @@ use script::branch::Branch;
 use script::weighing::Weighing;
 use semiring::Semiring;
 use std::fmt;
+
+// The formulas say of stations what the words of sets say.
+pub fn stations_stand()
+    ensures { λ _. ⌜ Stations ⌝ }
+{}
 
 // The divisors of 24, each with the bits of its multiples among 0 to 23.
 const TABLE: [Multiples; 8] = [

@@ -12,6 +12,7 @@ use Rattle.semiring.specs.Algebra.{Algebra, Laws, power, powers}
 use Rattle.kinds.specs.Bits.{bits-of, any}
 use Rattle.kinds.specs.declared.weights.Disc.{Disc}
 use Rattle.kinds.specs.Disc.{has, stations, zero, only, one, plus, meets, times, divides, greatest, divisor, multiples, star}
+use Rattle.kinds.specs.Stations.{Met}
 use Rattle.kinds.specs.laws.Bits.{bit, bits-same, bit-of, any-gives, gives-any}
 
 pub same-bits : (a b : Disc) → a .bits ≡ b .bits → a ≡ b
@@ -92,15 +93,6 @@ pub in-either : (a b : Disc) (t : ℕ) → t < 24 → has (plus a b) t ≡ true 
 in-either a b t h e = or-cases (has a t) (has b t) (sym (has-plus a b t h) ∙ e)
 
 -- the product, by stations
-pub record Met (a b : Disc) (t : ℕ) : Type 0 where
-  pub from : ℕ
-  pub by : ℕ
-  pub from-below : from < 24
-  pub by-below : by < 24
-  pub left : has a from ≡ true
-  pub right : has b by ≡ true
-  pub reaches : (from + by) % 24 ≡ t
-
 pub meets-gives : (a b : Disc) (t : ℕ) → meets a b t ≡ true → Met a b t
 meets-gives a b t e =
     let (s, hs, es) = any-gives 24 (λ s. any 24 (λ u. has a s && has b u && eqb ((s + u) % 24) t)) e in

@@ -12,6 +12,7 @@ use Rattle.semiring.specs.Algebra.{Algebra, Laws, power, powers}
 use Rattle.kinds.specs.Bits.{any}
 use Rattle.kinds.specs.declared.weights.Disc.{Disc}
 use Rattle.kinds.specs.Disc.{has, zero, one, plus, times, divides, greatest, divisor, multiples, star}
+use Rattle.kinds.specs.Stations.{Common}
 use Rattle.kinds.specs.laws.Bits.{any-gives, gives-any, all, all-gives}
 use Rattle.kinds.specs.laws.Disc.{Within, equal, has-stations, in-left, in-right, in-either, times-gives, in-times, one-gives, in-one, plus-assoc, plus-comm, plus-idem, plus-zero, times-assoc, times-comm, times-one, times-zero, times-plus}
 
@@ -51,28 +52,40 @@ gives-each d g e s h there = eqb-true _ _ (go (cases-bool (eqb (s % g) 0)))
         absurd (false≢true (sym (not-true _ e)
         ∙ gives-any 24 (λ s. has d s && not (eqb (s % g) 0)) s h (and-from (has d s) (not (eqb (s % g) 0)) there (not-from-false _ f))))
 
--- g divides 24 and all stations of d below n
-record Common (d : Disc) (n g : ℕ) : Type 0 where
-  whole : 24 % g ≡ 0
-  each : (s : ℕ) → s < n → has d s ≡ true → s % g ≡ 0
-
-common-gives : (d : Disc) (g : ℕ) → Common d 24 g → divides d g ≡ true
+common-gives : (d : Disc) (g : ℕ) → Common d g → divides d g ≡ true
 common-gives d g c = and-from (eqb (24 % g) 0) (not (astray d g)) (eq-eqb _ _ (c .whole)) (each-gives d g (c .each))
 
-gives-common : (d : Disc) (g : ℕ) → divides d g ≡ true → Common d 24 g
+gives-common : (d : Disc) (g : ℕ) → divides d g ≡ true → Common d g
 gives-common d g e =
     let (w, straight) = and-parts (eqb (24 % g) 0) (not (astray d g)) e in
     record { whole = eqb-true _ _ w; each = gives-each d g straight }
+
+over-zero : (g : ℕ) → 24 % g ≡ 0 → 0 < g
+over-zero none e = absurd (omega (arith, mod-zero 24))
+over-zero (suc g) e = omega arith
+
+divisor-le : (g : ℕ) → 24 % g ≡ 0 → g ≤ 24
+divisor-le g w = le-of-dvd (omega arith) (dvd-of-mod-eq-zero g w)
+
+-- the divisor of a set is a common one, and the greatest
+pub divisor-common : (d : Disc) → Common d (divisor d)
+divisor-common d =
+    let first : divides d 1 ≡ true = common-gives d 1 (record { whole = refl; each = λ s h there. omega arith }) in
+    gives-common d (divisor d) (greatest-passes (divides d) 24 1 first (omega arith) (omega arith) .0)
+
+pub divisor-greatest : (d : Disc) (g : ℕ) → Common d g → g ≤ divisor d
+divisor-greatest d g c =
+    greatest-passes (divides d) 24 g (common-gives d g c) (over-zero g (c .whole)) (divisor-le g (c .whole)) .1
 
 -- what divides 24 and two numbers divides their sum modulo 24
 mod-sum : (g a b : ℕ) → 24 % g ≡ 0 → a % g ≡ 0 → b % g ≡ 0 → (a + b) % 24 % g ≡ 0
 mod-sum g a b w ea eb =
     mod-mod-of-dvd g (a + b) (dvd-of-mod-eq-zero g w) ∙ add-mod a b g ∙ ap (λ (m : ℕ). m % g) (omega arith) ∙ zero-mod g
 
-in-multiples : (g t : ℕ) → t < 24 → t % g ≡ 0 → has (multiples g) t ≡ true
+pub in-multiples : (g t : ℕ) → t < 24 → t % g ≡ 0 → has (multiples g) t ≡ true
 in-multiples g t h e = has-stations (λ t. eqb (t % g) 0) t h ∙ eq-eqb _ _ e
 
-multiples-give : (g t : ℕ) → t < 24 → has (multiples g) t ≡ true → t % g ≡ 0
+pub multiples-give : (g t : ℕ) → t < 24 → has (multiples g) t ≡ true → t % g ≡ 0
 multiples-give g t h e = eqb-true _ _ (sym (has-stations (λ t. eqb (t % g) 0) t h) ∙ e)
 
 -- A station n, and the multiples of a divisor g of 24, reach the multiples of the greatest common
@@ -104,9 +117,6 @@ record Joins (n g : ℕ) : Type 0 where
   second : g % to ≡ 0
   steps : (t : ℕ) → t < 24 → t % to ≡ 0 → (i : ℕ) × (i < 24) × ((t + i * (24 - n)) % g ≡ 0)
 
-divisor-le : (g : ℕ) → 24 % g ≡ 0 → g ≤ 24
-divisor-le g w = le-of-dvd (omega arith) (dvd-of-mod-eq-zero g w)
-
 joins-give : (n g : ℕ) → n < 24 → 24 % g ≡ 0 → Joins n g
 unfolding joins back
 joins-give n g h w =
@@ -133,7 +143,7 @@ module _ (d : Disc) where
   abbrev sums : ℕ → Disc
   sums k = powers one plus times d k
 
-  within-power : (g : ℕ) → Common d 24 g → (k : ℕ) → Within (power one times d k) (multiples g)
+  within-power : (g : ℕ) → Common d g → (k : ℕ) → Within (power one times d k) (multiples g)
   within-power g c none t h e = in-multiples g t h (ap (λ (m : ℕ). m % g) (one-gives t h e) ∙ zero-mod g)
   within-power g c (suc k) t h e =
       let m = times-gives d (power one times d k) t h e in
@@ -141,7 +151,7 @@ module _ (d : Disc) where
       ∙ mod-sum g (m .from) (m .by) (c .whole) (c .each (m .from) (m .from-below) (m .left))
       (multiples-give g (m .by) (m .by-below) (within-power g c k (m .by) (m .by-below) (m .right))))
 
-  within-multiples : (g : ℕ) → Common d 24 g → (k : ℕ) → Within (sums k) (multiples g)
+  within-multiples : (g : ℕ) → Common d g → (k : ℕ) → Within (sums k) (multiples g)
   within-multiples g c none t h e = within-power g c none t h e
   within-multiples g c (suc k) t h e = go (within-multiples g c k t h) (in-either (sums k) (power one times d (suc k)) t h e)
     where
@@ -176,28 +186,25 @@ module _ (d : Disc) where
   -- the stations below n have a common divisor whose multiples are all reached
   record Gathered (n : ℕ) : Type 0 where
     g : ℕ
-    common : Common d n g
+    whole : 24 % g ≡ 0
+    each : (s : ℕ) → s < n → has d s ≡ true → s % g ≡ 0
     reached : (t : ℕ) → t < 24 → t % g ≡ 0 → Reached t
 
   gather-more : (n : ℕ) → n < 24 → Gathered n → (has d n ≡ true) ⊎ (has d n ≡ false) → Gathered (suc n)
   gather-more n h b (inr off) = record {
     g = b .g;
-    common = record {
-      whole = b .common .whole;
-      each = λ s hs there.
-          let other : s ≡ n → ⊥ = λ at. false≢true (sym off ∙ ap (has d) (sym at) ∙ there) in
-          b .common .each s (omega (arith, other)) there;
-    };
+    whole = b .whole;
+    each = λ s hs there.
+        let other : s ≡ n → ⊥ = λ at. false≢true (sym off ∙ ap (has d) (sym at) ∙ there) in
+        b .each s (omega (arith, other)) there;
     reached = b .reached;
   }
   gather-more n h b (inl here) =
-      let j = joins-give n (b .g) h (b .common .whole) in
+      let j = joins-give n (b .g) h (b .whole) in
       record {
         g = j .to;
-        common = record {
-          whole = j .whole;
-          each = λ s hs there. each j s hs there (cases-eq s n);
-        };
+        whole = j .whole;
+        each = λ s hs there. each j s hs there (cases-eq s n);
         reached = λ t ht e. reached j t ht e;
       }
     where
@@ -205,13 +212,13 @@ module _ (d : Disc) where
       each j s hs there (inl at) = ap (λ (m : ℕ). m % j .to) at ∙ j .first
       each j s hs there (inr other) =
           sym (mod-mod-of-dvd (j .to) s (dvd-of-mod-eq-zero (j .to) (j .second)))
-          ∙ ap (λ (m : ℕ). m % j .to) (b .common .each s (omega (arith, other)) there) ∙ zero-mod (j .to)
+          ∙ ap (λ (m : ℕ). m % j .to) (b .each s (omega (arith, other)) there) ∙ zero-mod (j .to)
 
       reached : (j : Joins n (b .g)) (t : ℕ) → t < 24 → t % j .to ≡ 0 → Reached t
       reached j t ht e =
           let (i, hi, ei) = j .steps t ht e in
           let m : ℕ = (t + i * (24 - n)) % 24 in
-          let start : Reached m = b .reached m (omega arith) (mod-mod-of-dvd (b .g) (t + i * (24 - n)) (dvd-of-mod-eq-zero (b .g) (b .common .whole)) ∙ ei) in
+          let start : Reached m = b .reached m (omega arith) (mod-mod-of-dvd (b .g) (t + i * (24 - n)) (dvd-of-mod-eq-zero (b .g) (b .whole)) ∙ ei) in
           let turns : i * n + i * (24 - n) ≡ i * 24 = sym (mul-add i n (24 - n)) ∙ ap (λ (m : ℕ). i * m) (omega arith) in
           let p : (i * n + m) % 24 ≡ t = omega arith in
           subst Reached p (add-stations n m h (omega arith) here i start)
@@ -219,7 +226,8 @@ module _ (d : Disc) where
   gather : (n : ℕ) → n ≤ 24 → Gathered n
   gather none h = record {
     g = 24;
-    common = record { whole = refl; each = λ s hs there. absurd (omega arith) };
+    whole = refl;
+    each = λ s hs there. absurd (omega arith);
     reached = λ t ht e. let at : 0 ≡ t = omega arith in subst Reached at (0, in-one);
   }
   gather (suc n) h = gather-more n h (gather n (omega arith)) (cases-bool (has d n))
@@ -254,11 +262,10 @@ module _ (d : Disc) where
   star-finite =
       let b : Gathered 24 = gather 24 (omega arith) in
       let (k, all-in) = together (b .g) (b .reached) 24 (omega arith) in
-      let one-passes : divides d 1 ≡ true = common-gives d 1 (record { whole = refl; each = λ s h there. omega arith }) in
-      let c : Common d 24 (divisor d) = gives-common d (divisor d) (greatest-passes (divides d) 24 1 one-passes (omega arith) (omega arith) .0) in
-      let small : b .g ≤ 24 = divisor-le (b .g) (b .common .whole) in
-      let positive : 0 < b .g = over-zero (b .g) (b .common .whole) in
-      let up : b .g ≤ divisor d = greatest-passes (divides d) 24 (b .g) (common-gives d (b .g) (b .common)) positive small .1 in
+      let c : Common d (divisor d) = divisor-common d in
+      let small : b .g ≤ 24 = divisor-le (b .g) (b .whole) in
+      let positive : 0 < b .g = over-zero (b .g) (b .whole) in
+      let up : b .g ≤ divisor d = divisor-greatest d (b .g) (record { whole = b .whole; each = b .each }) in
       let down : divisor d ≤ b .g = le-of-dvd positive (dvd-of-mod-eq-zero (divisor d) (on-itself (b .g) k c all-in (cases-eq (b .g) 24) small)) in
       let same : divisor d ≡ b .g = omega arith in
       let full : Within (multiples (divisor d)) (sums k) =
@@ -268,11 +275,7 @@ module _ (d : Disc) where
         equal _ _ (λ t h e. full t h (within-multiples (divisor d) c (suc k) t h e)) (in-left (sums k) (power one times d (suc k))),
       )
     where
-      over-zero : (g : ℕ) → 24 % g ≡ 0 → 0 < g
-      over-zero none e = absurd (omega (arith, mod-zero 24))
-      over-zero (suc g) e = omega arith
-
-      on-itself : (g k : ℕ) → Common d 24 (divisor d) → ((t : ℕ) → t < 24 → t % g ≡ 0 → has (sums k) t ≡ true) → (g ≡ 24) ⊎ (g ≡ 24 → ⊥) → g ≤ 24 → g % divisor d ≡ 0
+      on-itself : (g k : ℕ) → Common d (divisor d) → ((t : ℕ) → t < 24 → t % g ≡ 0 → has (sums k) t ≡ true) → (g ≡ 24) ⊎ (g ≡ 24 → ⊥) → g ≤ 24 → g % divisor d ≡ 0
       on-itself g k c all-in (inl e) h = ap (λ (x : ℕ). x % divisor d) e ∙ c .whole
       on-itself g k c all-in (inr other) h =
           let below : g < 24 = omega (arith, other) in
