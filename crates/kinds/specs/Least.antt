@@ -34,7 +34,8 @@ times (Seconds a) (Seconds b) = seconds (a .value + b .value)
 abbrev pub star : Least → Least
 star a = one
 
--- A branch weighs its seconds. The one record that is out of range, at 65,535, weighs never.
+-- A branch weighs its seconds, those past a script's range too. Of what a record holds 65,535 alone is
+-- no number of this kind: it weighs never.
 abbrev pub weight : Branch → Least
 weight b = seconds (b .seconds)
 

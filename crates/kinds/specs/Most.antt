@@ -36,7 +36,7 @@ abbrev pub star : Most → Most
 star Never = one
 star (Seconds a) = cond (ltb 0 (a .value)) (seconds 65535) one
 
--- A branch weighs its seconds: every record's fit.
+-- A branch weighs its seconds, those past a script's range too: every record's fit.
 abbrev pub weight : Branch → Most
 weight b = seconds (b .seconds)
 

@@ -1,14 +1,14 @@
 // The disc: a way turns it by the sum of its parts, modulo 24, and all ways count.
 ghost use mathlib.Core.Path.{_≡_};
-ghost use Prim.Native.Nat.{_<_, _%_, _^_};
-ghost use Rattle.kinds.specs.Disc.{has, only, times, turned, divisor, entry, table, weight, text};
-ghost use Rattle.kinds.specs.Stations.{Stations};
-ghost use Rattle.kinds.specs.laws.Star.{disc-algebra};
 ghost use mathlib.Core.Bool.{false, cond};
+ghost use Prim.Native.Nat.{_<_, _%_, _^_};
 ghost use lib.Dec.{ltb};
 ghost use Rattle.std.specs.declared.option.Option.the-variants.{Some};
 ghost use Rattle.std.specs.Reads.{value};
 ghost use Rattle.std.specs.Written.{glyph};
+ghost use Rattle.kinds.specs.Disc.{has, only, times, turned, divisor, entry, table, weight, text};
+ghost use Rattle.kinds.specs.Stations.{Stations};
+ghost use Rattle.kinds.specs.laws.Star.{disc-algebra};
 use crate::weights::Disc;
 use crate::weights::Multiples;
 use script::branch::Branch;
