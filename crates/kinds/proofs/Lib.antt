@@ -1,0 +1,4 @@
+pub mod Hex
+pub mod Stations
+pub mod Table
+pub mod Turns
