@@ -92,7 +92,7 @@ impl Disc {
     }
 
     // Whether a station stands in the set.
-    pub fn has(self, station: u32) -> bool
+    pub(crate) fn has(self, station: u32) -> bool
         requires { ⌜ station < 24 ⌝ }
         ensures { λ r. ⌜ r ≡ has self station ⌝ }
     {
