@@ -1,0 +1,5 @@
+pub mod Rule
+pub mod Equations
+pub mod Run
+pub mod Reached
+pub mod Convergence

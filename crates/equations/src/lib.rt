@@ -1,0 +1,1 @@
+// The equations of a script, and why their sheet converges.
