@@ -1,1 +1,4 @@
 pub mod Over
+pub mod Tangent
+pub mod FiniteSums
+pub mod Dimension

@@ -17,7 +17,7 @@ module _ {K : Type 0} (k : Algebra K) (g : List ℕ → K) where
   over-least (rule ∷ rules) r {c} h =
       Order.plus-least (dioid k) (cond-both (eqb (rule .routine) r) _ _ (λ x. Under k x c) (λ e. h rule (List·Memᴰ·head refl) (eqb-true _ _ e)) (λ e. Order.zero-under (dioid k) c)) (over-least rules r (λ rule′ m. h rule′ (List·Memᴰ·tail m)))
 
-  pub over-member : {script : List (Rule K)} {rule : Rule K} → List·Memᴰ rule script → Under k (k .times (rule .weight) (g (rule .calls))) (over k script g (rule .routine))
+  pub over-member : {rule : Rule K} {script : List (Rule K)} → List·Memᴰ rule script → Under k (k .times (rule .weight) (g (rule .calls))) (over k script g (rule .routine))
   over-member {rule} (List·Memᴰ·head {x = rule′} {xs = rules} e) =
       Order.under-trans (dioid k) (Order.equal-under (dioid k) (ap (λ (u : Rule K). k .times (u .weight) (g (u .calls))) e ∙ sym (cond-true _ _ _ (eq-eqb (rule′ .routine) (rule .routine) (sym (ap (λ (u : Rule K). u .routine) e)))))) (Order.under-plus-left (dioid k) _ (over k rules g (rule .routine)))
   over-member {rule} (List·Memᴰ·tail {x = rule′} {xs = rules} m) =
@@ -31,3 +31,8 @@ module _ {K : Type 0} (k : Algebra K) (g : List ℕ → K) where
       each : (b : Bool) → k .times (cond b (k .times (rule .weight) (g (rule .calls))) (k .zero)) a ≡ cond b (k .times (rule .weight) (k .times (g (rule .calls)) a)) (k .zero)
       each true = k .laws .times-assoc (rule .weight) (g (rule .calls)) a
       each false = Order.zero-times (dioid k) a
+
+-- A greater g has a greater sum.
+pub over-mono : {K : Type 0} (k : Algebra K) (g h : List ℕ → K) (script : List (Rule K)) → ((rule : Rule K) → List·Memᴰ rule script → Under k (g (rule .calls)) (h (rule .calls))) → (r : ℕ) → Under k (over k script g r) (over k script h r)
+over-mono k g h script below r =
+    over-least k g script r (λ rule m e. Order.under-trans (dioid k) (Order.times-mono-right (dioid k) (rule .weight) (below rule m)) (subst (λ q. Under k (k .times (rule .weight) (h (rule .calls))) (over k script h q)) e (over-member k h m)))
