@@ -2,3 +2,5 @@ pub mod Over
 pub mod Tangent
 pub mod FiniteSums
 pub mod Dimension
+pub mod Pieces
+pub mod Compact
