@@ -157,7 +157,7 @@ module _ {K : Type 0} (k : Algebra K) {script : List (Rule K)} {r : ℕ} {calls 
     fill-inside = λ labels i run j. (i .0, i .1, h .fill-inside labels (i .2) run j);
   }
 
-  repeat-root : {qs : List ℕ} (rest : Runs script qs) → Hole k r children → Repeat k (more m children rest)
+  pub repeat-root : {qs : List ℕ} (rest : Runs script qs) → Hole k r children → Repeat k (more m children rest)
   repeat-root rest h = record {
     label = r;
     skip = beside (h .sub) rest;
@@ -173,7 +173,7 @@ module _ {K : Type 0} (k : Algebra K) {script : List (Rule K)} {r : ℕ} {calls 
     piece-inside = λ labels i run j. (i .0, h .fill-inside labels (i .1) run j, tt);
   }
 
-  repeat-child : {qs : List ℕ} (rest : Runs script qs) → Repeat k children → Repeat k (more m children rest)
+  pub repeat-child : {qs : List ℕ} (rest : Runs script qs) → Repeat k children → Repeat k (more m children rest)
   repeat-child rest p = record {
     label = p .label;
     skip = more m (p .skip) rest;
@@ -189,7 +189,7 @@ module _ {K : Type 0} (k : Algebra K) {script : List (Rule K)} {r : ℕ} {calls 
     piece-inside = λ labels i. p .piece-inside labels (i .1);
   }
 
-  repeat-rest : {qs : List ℕ} (rest : Runs script qs) → Repeat k rest → Repeat k (more m children rest)
+  pub repeat-rest : {qs : List ℕ} (rest : Runs script qs) → Repeat k rest → Repeat k (more m children rest)
   repeat-rest rest p = record {
     label = p .label;
     skip = more m children (p .skip);
