@@ -4,3 +4,4 @@ pub mod FiniteSums
 pub mod Dimension
 pub mod Pieces
 pub mod Compact
+pub mod Converging
