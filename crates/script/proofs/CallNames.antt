@@ -59,5 +59,8 @@ no-minus w other = cond-false (sameBytes w (45 ∷ [])) _ _ (go (sameBytes w (45
     go true e = let same = sameBytes-decides w (45 ∷ []) .0 e in absurd (other (ap length same) (ap (λ l. getD l 0 0) same))
     go false e = e
 
+pub minus-alone : (w : List ℕ) → length w ≡ 1 → getD w 0 0 ≡ 45 → called w ≡ []
+minus-alone w long here = ap called (text-from-reads w (45 ∷ []) long (here, tt))
+
 pub lone-minus : (w : List ℕ) → length w ≡ 1 → getD w 0 0 ≡ 45 → is-calls w ≡ true
-lone-minus w long here = ap is-calls (text-from-reads w (45 ∷ []) long (here, tt))
+lone-minus w long here = ap (are-names 4) (minus-alone w long here)

@@ -1,6 +1,10 @@
 pub mod CallNames
+pub mod Calling
 pub mod Digits
+pub mod Lines
 pub mod Numbering
+pub mod Opening
 pub mod Pieces
 pub mod Records
+pub mod Rows
 pub mod Slots

@@ -10,7 +10,7 @@ use native.Mathlib.Omega.{arith}
 use lib.Dec.{eqb}
 use lib.ListN.{length, getD, take, drop, length-drop, length-take}
 use Rattle.std.proofs.shelf.Lists.{take-rest, drop-drop}
-use Rattle.std.proofs.shelf.Tests.{cond-true, cond-false, eq-eqb, ne-eqb}
+use Rattle.std.proofs.shelf.Tests.{cond-true, cond-false, cond-both, eq-eqb, ne-eqb}
 use Rattle.script.specs.Format.{pieces, onto}
 
 -- no byte of the text below n is the separator
@@ -26,6 +26,15 @@ pieces-cut sep b bs same = cond-true (eqb b sep) _ _ (eq-eqb b sep same)
 
 clear-tail : (sep b : ℕ) (bs : List ℕ) (n : ℕ) → Clear sep (b ∷ bs) (suc n) → Clear sep bs n
 clear-tail sep b bs n clear k below = clear (suc k) (omega arith)
+
+-- there is always one piece
+onto-some : (b : ℕ) (ps : List (List ℕ)) → 0 < length (onto b ps)
+onto-some b [] = omega arith
+onto-some b (p ∷ ps) = omega arith
+
+pub pieces-some : (sep : ℕ) (xs : List ℕ) → 0 < length (pieces sep xs)
+pieces-some sep [] = omega arith
+pieces-some sep (b ∷ bs) = cond-both (eqb b sep) _ _ (λ ps. 0 < length ps) (λ e. omega arith) (λ e. onto-some b (pieces sep bs))
 
 pub one-piece : (sep : ℕ) (xs : List ℕ) → Clear sep xs (length xs) → pieces sep xs ≡ xs ∷ []
 one-piece sep [] clear = refl

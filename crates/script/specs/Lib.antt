@@ -5,3 +5,4 @@ pub mod Legend
 pub mod Row
 pub mod Table
 pub mod Text
+pub mod Unread

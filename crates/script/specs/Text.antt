@@ -103,8 +103,10 @@ failed fault = record { items = []; ending = Some fault }
 abbrev pub ended : Feed
 ended = record { items = []; ending = None }
 
-abbrev pub preceded : Placed → Feed → Feed
-preceded item feed = record { items = item ∷ feed .items; ending = feed .ending }
+-- what a line comes to: its refusal, or its branch in front of what the lines behind it give
+abbrev pub line-feed : Option Misread → Placed → Feed → Feed
+line-feed (Some misread) item others = failed (reader-fault (misread .0) (item .line) (item .byte + misread .1))
+line-feed None item others = record { items = item ∷ others .items; ending = others .ending }
 
 -- The lines behind the first one, of which the next has the number `line` and begins at `byte`.
 -- What stands behind the last byte 10 is a line without its end, unless it is empty.
@@ -113,16 +115,19 @@ lines-feed legend line byte [] = ended
 lines-feed legend line byte ([] ∷ []) = ended
 lines-feed legend line byte ((b ∷ bs) ∷ []) = failed (reader-fault Words line byte)
 lines-feed legend line byte (l ∷ m ∷ ls) =
-    elim (line-refusal legend (pieces space l)) [
-        Some misread ↦ failed (reader-fault (misread .0) line (byte + misread .1))
-      | None ↦ preceded (record { branch = line-branch legend (pieces space l); line = line; byte = byte }) (lines-feed (line-met legend (pieces space l)) (line + 1) (byte + length l + 1) (m ∷ ls))
-    ]
+    line-feed (line-refusal legend (pieces space l)) (record { branch = line-branch legend (pieces space l); line = line; byte = byte })
+    (lines-feed (line-met legend (pieces space l)) (line + 1) (byte + length l + 1) (m ∷ ls))
 
--- the legend once those lines have been read, up to a fault
+-- the legend behind a line: a line that is refused ends it
+abbrev pub line-legend : Option Misread → Legend → Legend → Legend
+line-legend (Some misread) before after = before
+line-legend None before after = after
+
+-- the legend once those lines have been read
 abbrev pub lines-legend : Legend → List (List ℕ) → Legend
 lines-legend legend [] = legend
 lines-legend legend (l ∷ []) = legend
-lines-legend legend (l ∷ m ∷ ls) = elim (line-refusal legend (pieces space l)) [ Some misread ↦ legend | None ↦ lines-legend (line-met legend (pieces space l)) (m ∷ ls) ]
+lines-legend legend (l ∷ m ∷ ls) = line-legend (line-refusal legend (pieces space l)) legend (lines-legend (line-met legend (pieces space l)) (m ∷ ls))
 
 -- The first line of every file.
 abbrev pub first-line : List ℕ

@@ -6,5 +6,6 @@ mod names;
 pub mod refusal;
 pub mod source;
 pub mod table;
+pub mod text;
 pub mod weighing;
 mod words;

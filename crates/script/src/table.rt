@@ -1,5 +1,6 @@
 // The table source: the records of a lent slice, in order.
 ghost use mathlib.Core.Path.{_≡_};
+ghost use mathlib.Core.List.{[]};
 ghost use Rattle.script.specs.Feed.{Gives};
 ghost use Rattle.script.specs.Table.{table-feed, table-left};
 use crate::branch::Branch;
@@ -23,6 +24,8 @@ impl<'a> TableSource<'a> {
 
 pub impl<'a> Source for TableSource<'a> as RecordsInOrder {
     ghost feed = { table-left };
+
+    ghost legend = { λ _. [] };
 
     fn next(&mut self) -> Result<Option<Placed>, Fault> {
         let place = self.place;
