@@ -1,4 +1,5 @@
 pub mod Rule
+pub mod Held
 pub mod Equations
 pub mod Run
 pub mod Reached
