@@ -5,3 +5,4 @@ pub mod Dimension
 pub mod Pieces
 pub mod Compact
 pub mod Converging
+pub mod Slices

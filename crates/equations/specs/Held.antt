@@ -1,8 +1,7 @@
--- The script that lies in two slices: the rules read off the held places of a branch list and a
--- weight list.
+-- The script that lies in two slices, and what is left of a slice that is written from the front.
 use mathlib.Core.List.{List, [], _∷_, _++_}
 use Prim.Native.Nat.{ℕ, zero, suc}
-use lib.ListN.{getD, take}
+use lib.ListN.{getD, take, drop}
 use Rattle.semiring.specs.Algebra.{Algebra}
 use Rattle.script.specs.declared.branch.Branch.{Branch}
 use Rattle.equations.specs.Rule.{Rule}
@@ -11,6 +10,10 @@ use Rattle.equations.specs.Rule.{Rule}
 abbrev pub table : {A : Type 0} → (ℕ → A) → ℕ → List A
 table f zero = []
 table f (suc n) = table f n ++ f n ∷ []
+
+-- The list with f 0, .., f (n-1) in its first n places; the others as they were.
+abbrev pub written : {A : Type 0} → (ℕ → A) → ℕ → List A → List A
+written f n xs = table f n ++ drop n xs
 
 -- A branch with its weight, as a rule: the first `count` call places are meant.
 abbrev pub rule-of : {K : Type 0} → Branch → K → Rule K

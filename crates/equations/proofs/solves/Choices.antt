@@ -1,0 +1,9 @@
+use mathlib.Core.Path.{_≡_}
+use Prim.Native.Nat.{ℕ, _<_}
+use Rattle.linear.specs.System.{entry-at}
+use Rattle.equations.specs.Held.{rules-of}
+use Rattle.equations.specs.Equations.{Solves}
+use Rattle.equations.proofs.solves.Given as given
+
+abbrev pub Inv-loop-r : given.InvT-loop-r
+Inv-loop-r g l = let k = g .K·Semiring .algebra in Solves k (l .r) (rules-of k (l .held) (l .branches) (l .weights)) (entry-at k (l .values))
