@@ -6,3 +6,5 @@ pub mod Pieces
 pub mod Compact
 pub mod Converging
 pub mod Slices
+pub mod Rules
+pub mod FourRoutines

@@ -3,19 +3,21 @@
 use mathlib.Core.Path.{_≡_, refl, sym, ap, ap₂, _∙_}
 use mathlib.Core.Bool.{cond}
 use mathlib.Core.List.{List, [], _∷_, _++_, append-assoc}
-use Prim.Native.Nat.{ℕ, zero, suc, _+_, _-_, _<_, _≤_}
+use Prim.Native.Nat.{ℕ, zero, suc, _+_, _-_, _*_, _/_, _%_, _<_}
 use mathlib.Core.Logic.{_⊎_, inl, inr}
 use native.Mathlib.Nat.{eq-or-lt-of-le, le-of-suc-le-suc}
 use native.Mathlib.Numerals.{add-one}
 use native.Mathlib.Omega.{arith}
+use lib.Arith.{digits-lt, digits-div, digits-mod}
 use lib.Dec.{eqb}
 use lib.ListN.{length, getD, take, drop, set, length-append}
 use lib.Seq.{take-all}
 use Rattle.std.proofs.shelf.Tests.{eq-eqb, ne-eqb, cond-true, cond-false}
-use Rattle.std.proofs.shelf.Lists.{drop-more, set-at, getD-at, getD-append-left}
+use Rattle.std.proofs.shelf.Lists.{drop-more, set-at, getD-at, getD-append-left, getD-read}
 use Rattle.semiring.specs.Algebra.{Algebra}
 use Rattle.semiring.proofs.Dioid.{dioid}
 use Rattle.semiring.proofs.Order
+use Rattle.linear.specs.System.{cell}
 use Rattle.script.specs.declared.branch.Branch.{Branch}
 use Rattle.equations.specs.Rule.{Rule}
 use Rattle.equations.specs.Held.{table, written, rule-of, no-branch, rules-of}
@@ -44,10 +46,10 @@ module _ {K : Type 0} (k : Algebra K) (g : List ℕ → K) (r : ℕ) where
   over-push (first ∷ rules) rule = ap (k .plus _) (over-push rules rule) ∙ sym (k .laws .plus-assoc _ (over k rules g r) _)
 
   -- One held branch more, which is one of r, or not.
-  pub held-taken : (branches : List Branch) (weights : List K) (i : ℕ) (all w p t all′ : K) → all ≡ over k (rules-of k i branches weights) g r → getD branches i no-branch .routine ≡ r → w ≡ getD weights i (k .zero) → p ≡ g (take (getD branches i no-branch .count) (getD branches i no-branch .calls)) → t ≡ k .times w p → all′ ≡ k .plus all t → all′ ≡ over k (rules-of k (i + 1) branches weights) g r
-  held-taken branches weights i all w p t all′ before names weight calls product is =
+  pub held-taken : (branches : List Branch) (weights : List K) (i : ℕ) (all w : K) (calls : List ℕ) (p t all′ : K) → all ≡ over k (rules-of k i branches weights) g r → getD branches i no-branch .routine ≡ r → i < length weights → w ≡ getD weights i w → calls ≡ take (getD branches i no-branch .count) (getD branches i no-branch .calls) → p ≡ g calls → t ≡ k .times w p → all′ ≡ k .plus all t → all′ ≡ over k (rules-of k (i + 1) branches weights) g r
+  held-taken branches weights i all w calls p t all′ before names within weight meant part product is =
       let rule = rule-of (getD branches i no-branch) (getD weights i (k .zero)) in
-      rw (add-one i) (is ∙ ap₂ (k .plus) before (product ∙ ap₂ (k .times) weight calls ∙ sym (cond-true (eqb (rule .routine) r) _ (k .zero) (eq-eqb (rule .routine) r names))) ∙ sym (over-push (rules-of k i branches weights) rule))
+      rw (add-one i) (is ∙ ap₂ (k .plus) before (product ∙ ap₂ (k .times) (getD-read weights i w within weight (k .zero)) (part ∙ ap g meant) ∙ sym (cond-true (eqb (rule .routine) r) _ (k .zero) (eq-eqb (rule .routine) r names))) ∙ sym (over-push (rules-of k i branches weights) rule))
 
   pub held-passed : (branches : List Branch) (weights : List K) (i : ℕ) (all : K) → all ≡ over k (rules-of k i branches weights) g r → (getD branches i no-branch .routine ≡ r → ⊥) → all ≡ over k (rules-of k (i + 1) branches weights) g r
   held-passed branches weights i all before apart =
@@ -61,15 +63,12 @@ module _ {A : Type 0} (f : ℕ → A) where
   length-table (suc n) = omega (arith, length-append (table f n) (f n ∷ []), length-table n)
 
   -- One more place.
-  pub written-more : (n : ℕ) (xs : List A) (x : A) → n < length xs → x ≡ f n → set (written f n xs) n x ≡ written f (n + 1) xs
-  written-more n xs x l e =
+  pub written-more : (n : ℕ) (xs ys : List A) (x : A) → n < length xs → ys ≡ written f n xs → x ≡ f n → set ys n x ≡ written f (n + 1) xs
+  written-more n xs ys x l before e =
       let opened : written f n xs ≡ table f n ++ getD xs n x ∷ drop (n + 1) xs = ap (λ ys. table f n ++ ys) (drop-more xs n x l) in
       let put = set-at (table f n) (getD xs n x) (drop (n + 1) xs) x n (length-table n) in
       let grown : table f (n + 1) ≡ table f n ++ f n ∷ [] = ap (table f) (add-one n) in
-      ap (λ ys. set ys n x) opened ∙ put ∙ ap (λ y. table f n ++ y ∷ drop (n + 1) xs) e ∙ sym (append-assoc (table f n) (f n ∷ []) (drop (n + 1) xs)) ∙ ap (λ ys. ys ++ drop (n + 1) xs) (sym grown)
-
-  pub written-none : (xs : List A) → xs ≡ written f 0 xs
-  written-none xs = refl
+      ap (λ zs. set zs n x) (before ∙ opened) ∙ put ∙ ap (λ y. table f n ++ y ∷ drop (n + 1) xs) e ∙ sym (append-assoc (table f n) (f n ∷ []) (drop (n + 1) xs)) ∙ ap (λ ys. ys ++ drop (n + 1) xs) (sym grown)
 
   getD-table : (n i : ℕ) (d : A) → i < n → getD (table f n) i d ≡ f i
   getD-table zero i d l = absurd (omega arith)
@@ -79,5 +78,10 @@ module _ {A : Type 0} (f : ℕ → A) where
       look before (inl e) = getD-at (table f n) (f n) [] d i (omega (arith, length-table n)) ∙ ap f (sym e)
       look before (inr m) = getD-append-left (table f n) (f n ∷ []) d i (omega (arith, length-table n)) ∙ before m
 
-  pub getD-written : (n i : ℕ) (xs : List A) (d : A) → i < n → getD (written f n xs) i d ≡ f i
-  getD-written n i xs d l = getD-append-left (table f n) (drop n xs) d i (omega (arith, length-table n)) ∙ getD-table n i d l
+  pub getD-written : (n i : ℕ) (xs ys : List A) (d : A) → ys ≡ written f n xs → i < n → getD ys i d ≡ f i
+  getD-written n i xs ys d e l = ap (λ zs. getD zs i d) e ∙ getD-append-left (table f n) (drop n xs) d i (omega (arith, length-table n)) ∙ getD-table n i d l
+
+-- A grid that is written place after place, read by rows.
+pub cell-written : {K : Type 0} (k : Algebra K) (f : ℕ → ℕ → K) (n : ℕ) (xs ys : List K) → ys ≡ written (λ i. f (i / n) (i % n)) (n * n) xs → (r q : ℕ) → r < n → q < n → cell k n ys r q ≡ f r q
+cell-written k f n xs ys e r q l m =
+    getD-written (λ i. f (i / n) (i % n)) (n * n) (r * n + q) xs ys (k .zero) e (digits-lt l m) ∙ ap₂ f (digits-div r m) (digits-mod r m)

@@ -9,6 +9,7 @@ ghost use Rattle.linear.specs.System.{cell, entry-at};
 ghost use Rattle.equations.specs.Held.{rules-of, written};
 ghost use Rattle.equations.specs.Equations.{called, others, image, slope, Solves};
 ghost use Rattle.equations.specs.Convergence.{Convergence};
+ghost use Rattle.equations.specs.Example.{ended, Example};
 use script::branch::Branch;
 use semiring::Semiring;
 
@@ -92,7 +93,8 @@ pub fn slope_at<K: Semiring>(held: usize, branches: &[Branch], weights: &[K], va
 // Fills the first n places of a column with f.
 pub fn image<K: Semiring>(n: usize, held: usize, branches: &[Branch], weights: &[K], values: &[K], column: &mut [K])
     requires { ⌜ held ≤ length (now branches) ⌝ ∗ ⌜ held ≤ length (now weights) ⌝ ∗ ⌜ n ≤ length (now column) ⌝ }
-    ensures { λ _. ⌜ now (column .exit) ≡ written (image algebra (rules-of algebra held (now (branches .entry)) (now (weights .entry))) (entry-at algebra (now (values .entry)))) n (now (column .entry)) ⌝ }
+    ensures whole { λ _. ⌜ now (column .exit) ≡ written (image algebra (rules-of algebra held (now (branches .entry)) (now (weights .entry))) (entry-at algebra (now (values .entry)))) n (now (column .entry)) ⌝ }
+    ensures each { λ _. ⌜ ((r : ℕ) → r < n → entry-at algebra (now (column .exit)) r ≡ image algebra (rules-of algebra held (now (branches .entry)) (now (weights .entry))) (entry-at algebra (now (values .entry))) r) ⌝ }
 {
     for r in 0..n {
         column[r] = image_at(held, branches, weights, values, r);
@@ -102,7 +104,8 @@ pub fn image<K: Semiring>(n: usize, held: usize, branches: &[Branch], weights: &
 // Fills the first n × n places of a grid with the slopes: row r, place q at r × n + q.
 pub fn slopes<K: Semiring>(n: usize, held: usize, branches: &[Branch], weights: &[K], values: &[K], grid: &mut [K])
     requires { ⌜ held ≤ length (now branches) ⌝ ∗ ⌜ held ≤ length (now weights) ⌝ ∗ ⌜ n * n ≤ length (now grid) ⌝ }
-    ensures { λ _. ⌜ now (grid .exit) ≡ written (λ i. slope algebra (rules-of algebra held (now (branches .entry)) (now (weights .entry))) (entry-at algebra (now (values .entry))) (i / n) (i % n)) (n * n) (now (grid .entry)) ⌝ }
+    ensures whole { λ _. ⌜ now (grid .exit) ≡ written (λ i. slope algebra (rules-of algebra held (now (branches .entry)) (now (weights .entry))) (entry-at algebra (now (values .entry))) (i / n) (i % n)) (n * n) (now (grid .entry)) ⌝ }
+    ensures cells { λ _. ⌜ ((r q : ℕ) → r < n → q < n → cell algebra n (now (grid .exit)) r q ≡ slope algebra (rules-of algebra held (now (branches .entry)) (now (weights .entry))) (entry-at algebra (now (values .entry))) r q) ⌝ }
 {
     for i in 0..n * n {
         grid[i] = slope_at(held, branches, weights, values, i / n, i % n);
@@ -123,4 +126,18 @@ pub fn solves<K: Semiring>(n: usize, held: usize, branches: &[Branch], weights: 
         }
     }
     true
+}
+
+fn have_runs() -> [bool; 4]
+    ensures { λ v. ⌜ v ≡ ended ⌝ }
+{
+    [true, true, true, false]
+}
+
+// Which routines of the example have a complete run: values that are reached, at a concrete kind
+// and script.
+pub fn example() -> [bool; 4]
+    ensures { λ v. ⌜ Example v ⌝ }
+{
+    have_runs()
 }
