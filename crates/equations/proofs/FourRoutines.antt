@@ -1,17 +1,18 @@
 -- The example: what start and each round give.
 use mathlib.Core.Path.{_≡_, refl, sym}
-use mathlib.Core.Bool.{Bool, true, false}
+use mathlib.Core.Bool.{true, false}
 use mathlib.Core.List.{List, [], _∷_}
 use Prim.Native.Nat.{ℕ, zero, suc, _<_}
 use native.Mathlib.Omega.{arith}
 use Rattle.semiring.specs.Algebra.{Algebra}
-use Rattle.semiring.specs.Truth.{truth}
 use Rattle.semiring.proofs.Dioid.{dioid}
 use Rattle.semiring.proofs.Order
 use Rattle.linear.specs.System.{Least, right-side, entry-at}
 use Rattle.equations.specs.Rule.{Rule, Within}
 use Rattle.equations.specs.Equations.{image, slope}
 use Rattle.equations.specs.Reached.{Image, Reached, start, climb, round}
+use Rattle.equations.specs.declared.possible.Possible.{Possible}
+use Rattle.equations.specs.Possible.{says, possible}
 use Rattle.equations.specs.Example.{calling, example, ended, Example}
 use Rattle.equations.proofs.Rules.{no-calls, more-calls, no-rules, more-rules}
 use Rattle.equations.proofs.Converging.{convergence}
@@ -31,34 +32,34 @@ below-four P a b c e (suc (suc (suc zero))) l = e
 below-four P a b c e (suc (suc (suc (suc r)))) l = absurd (omega arith)
 
 -- The values after start, after one round, and after each further round.
-abbrev started : List Bool
-started = false ∷ false ∷ true ∷ false ∷ []
+abbrev started : List Possible
+started = says false ∷ says false ∷ says true ∷ says false ∷ []
 
-abbrev once : List Bool
-once = false ∷ true ∷ true ∷ false ∷ []
+abbrev once : List Possible
+once = says false ∷ says true ∷ says true ∷ says false ∷ []
 
 -- A round from one list of values to the next.
-rounded : (v x : List Bool) → Image truth 4 example (entry-at truth v) (entry-at truth x) → ((r : ℕ) → r < 4 → entry-at truth x r ≡ right-side truth 4 (slope truth example (entry-at truth v)) (image truth example (entry-at truth v)) (entry-at truth x) r) → Least truth 4 (slope truth example (entry-at truth v)) (image truth example (entry-at truth v)) (entry-at truth x)
-rounded v x = image-least truth 4 example (entry-at truth v) (entry-at truth x)
+rounded : (v x : List Possible) → Image possible 4 example (entry-at possible v) (entry-at possible x) → ((r : ℕ) → r < 4 → entry-at possible x r ≡ right-side possible 4 (slope possible example (entry-at possible v)) (image possible example (entry-at possible v)) (entry-at possible x) r) → Least possible 4 (slope possible example (entry-at possible v)) (image possible example (entry-at possible v)) (entry-at possible x)
+rounded v x = image-least possible 4 example (entry-at possible v) (entry-at possible x)
 
-first : Reached truth 4 example (entry-at truth started) 0
-first = start (below-four (λ r. entry-at truth started r ≡ image truth example (λ q. false) r) refl refl refl refl)
+first : Reached possible 4 example (entry-at possible started) 0
+first = start (below-four (λ r. entry-at possible started r ≡ image possible example (λ q. says false) r) refl refl refl refl)
 
-second : Reached truth 4 example (entry-at truth once) 1
+second : Reached possible 4 example (entry-at possible once) 1
 second =
-    round first (rounded started once (below-four (λ r. entry-at truth once r ≡ image truth example (entry-at truth started) r) refl refl refl refl) (below-four (λ r. entry-at truth once r ≡ right-side truth 4 (slope truth example (entry-at truth started)) (image truth example (entry-at truth started)) (entry-at truth once) r) refl refl refl refl))
+    round first (rounded started once (below-four (λ r. entry-at possible once r ≡ image possible example (entry-at possible started) r) refl refl refl refl) (below-four (λ r. entry-at possible once r ≡ right-side possible 4 (slope possible example (entry-at possible started)) (image possible example (entry-at possible started)) (entry-at possible once) r) refl refl refl refl))
 
-third : Reached truth 4 example (entry-at truth ended) 2
+third : Reached possible 4 example (entry-at possible ended) 2
 third =
-    round second (rounded once ended (below-four (λ r. entry-at truth ended r ≡ image truth example (entry-at truth once) r) refl refl refl refl) (below-four (λ r. entry-at truth ended r ≡ right-side truth 4 (slope truth example (entry-at truth once)) (image truth example (entry-at truth once)) (entry-at truth ended) r) refl refl refl refl))
+    round second (rounded once ended (below-four (λ r. entry-at possible ended r ≡ image possible example (entry-at possible once) r) refl refl refl refl) (below-four (λ r. entry-at possible ended r ≡ right-side possible 4 (slope possible example (entry-at possible once)) (image possible example (entry-at possible once)) (entry-at possible ended) r) refl refl refl refl))
 
-settled : Image truth 4 example (entry-at truth ended) (entry-at truth ended)
-settled = below-four (λ r. entry-at truth ended r ≡ image truth example (entry-at truth ended) r) refl refl refl refl
+settled : Image possible 4 example (entry-at possible ended) (entry-at possible ended)
+settled = below-four (λ r. entry-at possible ended r ≡ image possible example (entry-at possible ended) r) refl refl refl refl
 
 -- A round keeps the last values.
-again : (rounds : ℕ) → Reached truth 4 example (entry-at truth ended) rounds → Reached truth 4 example (entry-at truth ended) (suc rounds)
+again : (rounds : ℕ) → Reached possible 4 example (entry-at possible ended) rounds → Reached possible 4 example (entry-at possible ended) (suc rounds)
 again rounds reached =
-    round reached (rounded ended ended settled (below-four (λ r. entry-at truth ended r ≡ right-side truth 4 (slope truth example (entry-at truth ended)) (image truth example (entry-at truth ended)) (entry-at truth ended) r) refl refl refl refl))
+    round reached (rounded ended ended settled (below-four (λ r. entry-at possible ended r ≡ right-side possible 4 (slope possible example (entry-at possible ended)) (image possible example (entry-at possible ended)) (entry-at possible ended) r) refl refl refl refl))
 
 all-within : Within 4 example
 all-within =
@@ -70,5 +71,5 @@ example-holds =
     record {
       within = all-within;
       reached = reached;
-      sum = convergence truth .exact 4 example all-within (entry-at truth ended) 4 reached (convergence truth .enough 4 example all-within (entry-at truth ended) reached);
+      sum = convergence possible .exact 4 example all-within (entry-at possible ended) 4 reached (convergence possible .enough 4 example all-within (entry-at possible ended) reached);
     }

@@ -8,10 +8,15 @@ ghost use lib.ListN.{length, take};
 ghost use Rattle.linear.specs.System.{cell, entry-at};
 ghost use Rattle.equations.specs.Held.{rules-of, written};
 ghost use Rattle.equations.specs.Equations.{called, others, image, slope, Solves};
+ghost use Rattle.equations.specs.Reached.{Image};
 ghost use Rattle.equations.specs.Convergence.{Convergence};
 ghost use Rattle.equations.specs.Example.{ended, Example};
+use crate::possible::Possible;
 use script::branch::Branch;
 use semiring::Semiring;
+
+pub mod kind;
+pub mod possible;
 
 fn value_at<K: Semiring>(values: &[K], r: usize) -> K
     ensures { λ w. ⌜ w ≡ entry-at algebra (now (values .entry)) r ⌝ }
@@ -63,7 +68,13 @@ fn calls_of(branch: &Branch) -> &[u8]
 }
 
 // f at routine r.
-pub fn image_at<K: Semiring>(held: usize, branches: &[Branch], weights: &[K], values: &[K], r: usize) -> K
+pub fn image_at<K: Semiring>(
+    held: usize,
+    branches: &[Branch],
+    weights: &[K],
+    values: &[K],
+    r: usize,
+) -> K
     requires { ⌜ held ≤ length (now branches) ⌝ ∗ ⌜ held ≤ length (now weights) ⌝ }
     ensures { λ w. ⌜ w ≡ image algebra (rules-of algebra held (now (branches .entry)) (now (weights .entry))) (entry-at algebra (now (values .entry))) r ⌝ }
 {
@@ -77,24 +88,38 @@ pub fn image_at<K: Semiring>(held: usize, branches: &[Branch], weights: &[K], va
 }
 
 // The slope of f in row r, place q.
-pub fn slope_at<K: Semiring>(held: usize, branches: &[Branch], weights: &[K], values: &[K], r: usize, q: usize) -> K
+pub fn slope_at<K: Semiring>(
+    held: usize,
+    branches: &[Branch],
+    weights: &[K],
+    values: &[K],
+    r: usize,
+    q: usize,
+) -> K
     requires { ⌜ held ≤ length (now branches) ⌝ ∗ ⌜ held ≤ length (now weights) ⌝ }
     ensures { λ w. ⌜ w ≡ slope algebra (rules-of algebra held (now (branches .entry)) (now (weights .entry))) (entry-at algebra (now (values .entry))) r q ⌝ }
 {
-    let mut all = K::zero();
+    let mut slope = K::zero();
     for i in 0..held {
         if branches[i].routine as usize == r {
-            all = all.sum(weights[i].product(others(values, q, calls_of(&branches[i]))));
+            slope = slope.sum(weights[i].product(others(values, q, calls_of(&branches[i]))));
         }
     }
-    all
+    slope
 }
 
 // Fills the first n places of a column with f.
-pub fn image<K: Semiring>(n: usize, held: usize, branches: &[Branch], weights: &[K], values: &[K], column: &mut [K])
+pub fn image<K: Semiring>(
+    n: usize,
+    held: usize,
+    branches: &[Branch],
+    weights: &[K],
+    values: &[K],
+    column: &mut [K],
+)
     requires { ⌜ held ≤ length (now branches) ⌝ ∗ ⌜ held ≤ length (now weights) ⌝ ∗ ⌜ n ≤ length (now column) ⌝ }
     ensures whole { λ _. ⌜ now (column .exit) ≡ written (image algebra (rules-of algebra held (now (branches .entry)) (now (weights .entry))) (entry-at algebra (now (values .entry)))) n (now (column .entry)) ⌝ }
-    ensures each { λ _. ⌜ ((r : ℕ) → r < n → entry-at algebra (now (column .exit)) r ≡ image algebra (rules-of algebra held (now (branches .entry)) (now (weights .entry))) (entry-at algebra (now (values .entry))) r) ⌝ }
+    ensures each { λ _. ⌜ Image algebra n (rules-of algebra held (now (branches .entry)) (now (weights .entry))) (entry-at algebra (now (values .entry))) (entry-at algebra (now (column .exit))) ⌝ }
 {
     for r in 0..n {
         column[r] = image_at(held, branches, weights, values, r);
@@ -102,7 +127,14 @@ pub fn image<K: Semiring>(n: usize, held: usize, branches: &[Branch], weights: &
 }
 
 // Fills the first n × n places of a grid with the slopes: row r, place q at r × n + q.
-pub fn slopes<K: Semiring>(n: usize, held: usize, branches: &[Branch], weights: &[K], values: &[K], grid: &mut [K])
+pub fn slopes<K: Semiring>(
+    n: usize,
+    held: usize,
+    branches: &[Branch],
+    weights: &[K],
+    values: &[K],
+    grid: &mut [K],
+)
     requires { ⌜ held ≤ length (now branches) ⌝ ∗ ⌜ held ≤ length (now weights) ⌝ ∗ ⌜ n * n ≤ length (now grid) ⌝ }
     ensures whole { λ _. ⌜ now (grid .exit) ≡ written (λ i. slope algebra (rules-of algebra held (now (branches .entry)) (now (weights .entry))) (entry-at algebra (now (values .entry))) (i / n) (i % n)) (n * n) (now (grid .entry)) ⌝ }
     ensures cells { λ _. ⌜ ((r q : ℕ) → r < n → q < n → cell algebra n (now (grid .exit)) r q ≡ slope algebra (rules-of algebra held (now (branches .entry)) (now (weights .entry))) (entry-at algebra (now (values .entry))) r q) ⌝ }
@@ -114,29 +146,38 @@ pub fn slopes<K: Semiring>(n: usize, held: usize, branches: &[Branch], weights: 
 
 // Whether the values solve the equations of the routines below n. With it, why that is asked:
 // reached values that solve them are the sum over all runs, and n rounds suffice.
-pub fn solves<K: Semiring>(n: usize, held: usize, branches: &[Branch], weights: &[K], values: &[K]) -> bool
+pub fn solves<K: Semiring>(
+    n: usize,
+    held: usize,
+    branches: &[Branch],
+    weights: &[K],
+    values: &[K],
+) -> bool
     requires { ⌜ held ≤ length (now branches) ⌝ ∗ ⌜ held ≤ length (now weights) ⌝ }
     ensures yes { λ a. ⌜ (a ≡ true → Solves algebra n (rules-of algebra held (now (branches .entry)) (now (weights .entry))) (entry-at algebra (now (values .entry)))) ⌝ }
     ensures no { λ a. ⌜ (a ≡ false → Solves algebra n (rules-of algebra held (now (branches .entry)) (now (weights .entry))) (entry-at algebra (now (values .entry))) → ⊥) ⌝ }
     ensures convergence { λ _. ⌜ Convergence algebra ⌝ }
 {
-    for r in 0..n {
-        if !value_at(values, r).same(image_at(held, branches, weights, values, r)) {
+    for routine in 0..n {
+        let image = image_at(held, branches, weights, values, routine);
+        if !value_at(values, routine).same(image) {
             return false;
         }
     }
     true
 }
 
-fn have_runs() -> [bool; 4]
+// Which routines of the example have a complete run.
+fn have_runs() -> [Possible; 4]
     ensures { λ v. ⌜ v ≡ ended ⌝ }
 {
-    [true, true, true, false]
+    let yes = Possible { yes: true };
+    let no = Possible { yes: false };
+    [yes, yes, yes, no]
 }
 
-// Which routines of the example have a complete run: values that are reached, at a concrete kind
-// and script.
-pub fn example() -> [bool; 4]
+// Values that are reached with n rounds, at a concrete kind and script.
+pub fn example() -> [Possible; 4]
     ensures { λ v. ⌜ Example v ⌝ }
 {
     have_runs()

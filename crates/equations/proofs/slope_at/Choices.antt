@@ -5,4 +5,4 @@ use Rattle.equations.specs.Equations.{slope}
 use Rattle.equations.proofs.slope_at.Given as given
 
 abbrev pub Inv-loop-i : given.InvT-loop-i
-Inv-loop-i g l = let k = g .K·Semiring .algebra in l .all ≡ slope k (rules-of k (l .i) (l .branches) (l .weights)) (entry-at k (l .values)) (l .r) (l .q)
+Inv-loop-i g l = let k = g .K·Semiring .algebra in l .slope ≡ slope k (rules-of k (l .i) (l .branches) (l .weights)) (entry-at k (l .values)) (l .r) (l .q)

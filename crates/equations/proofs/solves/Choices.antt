@@ -5,5 +5,5 @@ use Rattle.equations.specs.Held.{rules-of}
 use Rattle.equations.specs.Equations.{Solves}
 use Rattle.equations.proofs.solves.Given as given
 
-abbrev pub Inv-loop-r : given.InvT-loop-r
-Inv-loop-r g l = let k = g .K·Semiring .algebra in Solves k (l .r) (rules-of k (l .held) (l .branches) (l .weights)) (entry-at k (l .values))
+abbrev pub Inv-loop-routine : given.InvT-loop-routine
+Inv-loop-routine g l = let k = g .K·Semiring .algebra in Solves k (l .routine) (rules-of k (l .held) (l .branches) (l .weights)) (entry-at k (l .values))
