@@ -16,12 +16,12 @@ use Rattle.linear.specs.System.{Least}
 use Rattle.linear.proofs.Existence.{least-in}
 use Rattle.equations.specs.Rule.{Rule, Within}
 use Rattle.equations.specs.Equations.{called, image, slope, Solves}
-use Rattle.equations.specs.Run.{Runs, none, more, Run, weight, Finite}
+use Rattle.equations.specs.Run.{Runs, none, more, Run, weight}
 use Rattle.equations.specs.Reached.{Image, Reached, start, climb, round}
 use Rattle.equations.specs.Convergence.{Sum-of-runs, Convergence}
 use Rattle.equations.proofs.Over.{over-member}
 use Rattle.equations.proofs.Tangent.{Lies-under, image-mono, tangent}
-use Rattle.equations.proofs.FiniteSums.{single-weight, finite-zero, finite-plus, finite-image, finite-slope}
+use Rattle.equations.proofs.FiniteSums.{Finite, single-weight, finite-zero, finite-plus, finite-image, finite-slope}
 use Rattle.equations.proofs.Dimension.{Empty, Covers, round-covers}
 use Rattle.equations.proofs.Pieces.{size, Inside}
 use Rattle.equations.proofs.Compact.{compact}

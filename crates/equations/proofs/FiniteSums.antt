@@ -13,8 +13,12 @@ use Rattle.semiring.proofs.Order
 use Rattle.semiring.proofs.Sums
 use Rattle.equations.specs.Rule.{Rule, Within}
 use Rattle.equations.specs.Equations.{over, called, others, image, slope}
-use Rattle.equations.specs.Run.{Runs, none, more, Run, weight, Finite}
+use Rattle.equations.specs.Run.{Runs, none, more, Run, weight}
 use Rattle.equations.proofs.Over.{over-times}
+
+-- s is the sum of the weights of a finite list of runs.
+abbrev pub Finite : {K : Type 0} → Algebra K → List (Rule K) → List ℕ → K → Type 0
+Finite k script qs s = (runs : List (Runs script qs)) × (s ≡ total k (map (weight k) runs))
 
 -- A run in front of further runs.
 abbrev pub beside : {K : Type 0} {script : List (Rule K)} {r : ℕ} {qs : List ℕ} → Run script r → Runs script qs → Runs script (r ∷ qs)

@@ -1,10 +1,8 @@
 -- Complete runs. A run of a routine is one rule of it, with a run of the called routine for each
 -- of the rule's calls; it is finite, since it is built up from rules without calls.
-use mathlib.Core.Path.{_≡_}
-use mathlib.Core.List.{List, [], _∷_, map, List·Memᴰ}
+use mathlib.Core.List.{List, [], _∷_, List·Memᴰ}
 use Prim.Native.Nat.{ℕ}
 use Rattle.semiring.specs.Algebra.{Algebra}
-use Rattle.semiring.specs.Sums.{total}
 use Rattle.equations.specs.Rule.{Rule}
 
 -- One run for each routine of a list, in order. The first of them is a rule of the script for its
@@ -21,7 +19,3 @@ Run script r = Runs script (r ∷ [])
 abbrev pub weight : {K : Type 0} (k : Algebra K) {script : List (Rule K)} {qs : List ℕ} → Runs script qs → K
 weight k none = k .one
 weight k (more {w} m children rest) = k .times w (k .times (weight k children) (weight k rest))
-
--- s is the sum of the weights of a finite list of runs.
-abbrev pub Finite : {K : Type 0} → Algebra K → List (Rule K) → List ℕ → K → Type 0
-Finite k script qs s = (runs : List (Runs script qs)) × (s ≡ total k (map (weight k) runs))

@@ -182,3 +182,6 @@ pub fn example() -> [Possible; 4]
 {
     have_runs()
 }
+
+#[cfg(test)]
+mod tests;
