@@ -3,7 +3,7 @@
 use mathlib.Core.Path.{_≡_, refl, sym, ap, ap₂, _∙_}
 use mathlib.Core.Bool.{cond}
 use mathlib.Core.List.{List, [], _∷_, _++_, append-assoc}
-use Prim.Native.Nat.{ℕ, zero, suc, _+_, _-_, _*_, _/_, _%_, _<_}
+use Prim.Native.Nat.{ℕ, zero, suc, _+_, _-_, _*_, _<_}
 use mathlib.Core.Logic.{_⊎_, inl, inr}
 use native.Mathlib.Nat.{eq-or-lt-of-le, le-of-suc-le-suc}
 use native.Mathlib.Numerals.{add-one}
@@ -17,10 +17,10 @@ use Rattle.std.proofs.shelf.Lists.{drop-more, set-at, getD-at, getD-append-left
 use Rattle.semiring.specs.Algebra.{Algebra}
 use Rattle.semiring.proofs.Dioid.{dioid}
 use Rattle.semiring.proofs.Order
-use Rattle.linear.specs.System.{cell}
+use Rattle.linear.specs.System.{cell, entry-at}
 use Rattle.script.specs.declared.branch.Branch.{Branch}
 use Rattle.equations.specs.Rule.{Rule}
-use Rattle.equations.specs.Held.{table, written, rule-of, no-branch, rules-of}
+use Rattle.equations.specs.Held.{table, written, rows, rule-of, no-branch, rules-of}
 use Rattle.equations.specs.Equations.{over, called, others}
 
 split-first : (xs : List ℕ) → 0 < length xs → xs ≡ getD xs 0 0 ∷ take (length xs - 1) (drop 1 xs)
@@ -78,10 +78,13 @@ module _ {A : Type 0} (f : ℕ → A) where
       look before (inl e) = getD-at (table f n) (f n) [] d i (omega (arith, length-table n)) ∙ ap f (sym e)
       look before (inr m) = getD-append-left (table f n) (f n ∷ []) d i (omega (arith, length-table n)) ∙ before m
 
-  pub getD-written : (n i : ℕ) (xs ys : List A) (d : A) → ys ≡ written f n xs → i < n → getD ys i d ≡ f i
+  getD-written : (n i : ℕ) (xs ys : List A) (d : A) → ys ≡ written f n xs → i < n → getD ys i d ≡ f i
   getD-written n i xs ys d e l = ap (λ zs. getD zs i d) e ∙ getD-append-left (table f n) (drop n xs) d i (omega (arith, length-table n)) ∙ getD-table n i d l
 
--- A grid that is written place after place, read by rows.
-pub cell-written : {K : Type 0} (k : Algebra K) (f : ℕ → ℕ → K) (n : ℕ) (xs ys : List K) → ys ≡ written (λ i. f (i / n) (i % n)) (n * n) xs → (r q : ℕ) → r < n → q < n → cell k n ys r q ≡ f r q
+-- What is read off a column and a grid that were written.
+pub entry-written : {K : Type 0} (k : Algebra K) (f : ℕ → K) (n : ℕ) (xs ys : List K) → ys ≡ written f n xs → (r : ℕ) → r < n → entry-at k ys r ≡ f r
+entry-written k f n xs ys e r = getD-written f n r xs ys (k .zero) e
+
+pub cell-written : {K : Type 0} (k : Algebra K) (f : ℕ → ℕ → K) (n : ℕ) (xs ys : List K) → ys ≡ written (rows n f) (n * n) xs → (r q : ℕ) → r < n → q < n → cell k n ys r q ≡ f r q
 cell-written k f n xs ys e r q l m =
-    getD-written (λ i. f (i / n) (i % n)) (n * n) (r * n + q) xs ys (k .zero) e (digits-lt l m) ∙ ap₂ f (digits-div r m) (digits-mod r m)
+    getD-written (rows n f) (n * n) (r * n + q) xs ys (k .zero) e (digits-lt l m) ∙ ap₂ f (digits-div r m) (digits-mod r m)

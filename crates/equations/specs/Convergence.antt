@@ -21,12 +21,12 @@ pub record Sum-of-runs {K : Type 0} (k : Algebra K) (n : ℕ) (script : List (Ru
 
 -- Reached values that solve the equations are the sum over all runs.
 abbrev pub Exact : {K : Type 0} → Algebra K → Type 0
-Exact k = (n : ℕ) (script : List (Rule _)) → Within n script → (v : ℕ → _) (rounds : ℕ) → Reached k n script v rounds → Solves k n script v → Sum-of-runs k n script v
+Exact {K} k = (n : ℕ) (script : List (Rule K)) → Within n script → (v : ℕ → K) (rounds : ℕ) → Reached k n script v rounds → Solves k n script v → Sum-of-runs k n script v
 
 -- With all routines below n, values reached with n rounds solve the equations, however many
 -- climbs stand between.
 abbrev pub Enough : {K : Type 0} → Algebra K → Type 0
-Enough k = (n : ℕ) (script : List (Rule _)) → Within n script → (v : ℕ → _) → Reached k n script v n → Solves k n script v
+Enough {K} k = (n : ℕ) (script : List (Rule K)) → Within n script → (v : ℕ → K) → Reached k n script v n → Solves k n script v
 
 pub record Convergence {K : Type 0} (k : Algebra K) : Type 0 where
   pub exact : Exact k

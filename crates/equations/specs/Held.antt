@@ -1,6 +1,6 @@
 -- The script that lies in two slices, and what is left of a slice that is written from the front.
 use mathlib.Core.List.{List, [], _∷_, _++_}
-use Prim.Native.Nat.{ℕ, zero, suc}
+use Prim.Native.Nat.{ℕ, zero, suc, _/_, _%_}
 use lib.ListN.{getD, take, drop}
 use Rattle.semiring.specs.Algebra.{Algebra}
 use Rattle.script.specs.declared.branch.Branch.{Branch}
@@ -14,6 +14,10 @@ table f (suc n) = table f n ++ f n ∷ []
 -- The list with f 0, .., f (n-1) in its first n places; the others as they were.
 abbrev pub written : {A : Type 0} → (ℕ → A) → ℕ → List A → List A
 written f n xs = table f n ++ drop n xs
+
+-- Rows of n places, one behind the other: row r, place q at r × n + q.
+abbrev pub rows : {A : Type 0} → ℕ → (ℕ → ℕ → A) → ℕ → A
+rows n f i = f (i / n) (i % n)
 
 -- A branch with its weight, as a rule: the first `count` call places are meant.
 abbrev pub rule-of : {K : Type 0} → Branch → K → Rule K

@@ -1,5 +1,5 @@
 -- Which values are reached from f of all zeros by climbs and rounds, and with how many rounds.
--- Only the values of the routines below n are spoken of.
+-- Only the values of the routines below n count.
 use mathlib.Core.Path.{_≡_}
 use mathlib.Core.List.{List}
 use Prim.Native.Nat.{ℕ, zero, suc, _<_}

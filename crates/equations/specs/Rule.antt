@@ -11,4 +11,4 @@ pub record Rule (K : Type 0) : Type 0 where
 
 -- All routines of a script, and all that its rules call, are numbered below n.
 abbrev pub Within : {K : Type 0} → ℕ → List (Rule K) → Type 0
-Within n script = (rule : Rule _) → List·Memᴰ rule script → (rule .routine < n) × ((q : ℕ) → List·Memᴰ q (rule .calls) → q < n)
+Within {K} n script = (rule : Rule K) → List·Memᴰ rule script → (rule .routine < n) × ((q : ℕ) → List·Memᴰ q (rule .calls) → q < n)

@@ -3,12 +3,11 @@
 // weights. A value past the end of the value slice is read as zero.
 ghost use mathlib.Core.Path.{_≡_};
 ghost use mathlib.Core.Bool.{true, false};
-ghost use Prim.Native.Nat.{ℕ, _*_, _/_, _%_, _<_, _≤_};
+ghost use Prim.Native.Nat.{_*_, _≤_};
 ghost use lib.ListN.{length, take};
-ghost use Rattle.linear.specs.System.{cell, entry-at};
-ghost use Rattle.equations.specs.Held.{rules-of, written};
+ghost use Rattle.linear.specs.System.{entry-at};
+ghost use Rattle.equations.specs.Held.{rules-of, written, rows};
 ghost use Rattle.equations.specs.Equations.{called, others, image, slope, Solves};
-ghost use Rattle.equations.specs.Reached.{Image};
 ghost use Rattle.equations.specs.Convergence.{Convergence};
 ghost use Rattle.equations.specs.Example.{ended, Example};
 use crate::possible::Possible;
@@ -118,8 +117,7 @@ pub fn image<K: Semiring>(
     column: &mut [K],
 )
     requires { ⌜ held ≤ length (now branches) ⌝ ∗ ⌜ held ≤ length (now weights) ⌝ ∗ ⌜ n ≤ length (now column) ⌝ }
-    ensures whole { λ _. ⌜ now (column .exit) ≡ written (image algebra (rules-of algebra held (now (branches .entry)) (now (weights .entry))) (entry-at algebra (now (values .entry)))) n (now (column .entry)) ⌝ }
-    ensures each { λ _. ⌜ Image algebra n (rules-of algebra held (now (branches .entry)) (now (weights .entry))) (entry-at algebra (now (values .entry))) (entry-at algebra (now (column .exit))) ⌝ }
+    ensures { λ _. ⌜ now (column .exit) ≡ written (image algebra (rules-of algebra held (now (branches .entry)) (now (weights .entry))) (entry-at algebra (now (values .entry)))) n (now (column .entry)) ⌝ }
 {
     for r in 0..n {
         column[r] = image_at(held, branches, weights, values, r);
@@ -136,8 +134,7 @@ pub fn slopes<K: Semiring>(
     grid: &mut [K],
 )
     requires { ⌜ held ≤ length (now branches) ⌝ ∗ ⌜ held ≤ length (now weights) ⌝ ∗ ⌜ n * n ≤ length (now grid) ⌝ }
-    ensures whole { λ _. ⌜ now (grid .exit) ≡ written (λ i. slope algebra (rules-of algebra held (now (branches .entry)) (now (weights .entry))) (entry-at algebra (now (values .entry))) (i / n) (i % n)) (n * n) (now (grid .entry)) ⌝ }
-    ensures cells { λ _. ⌜ ((r q : ℕ) → r < n → q < n → cell algebra n (now (grid .exit)) r q ≡ slope algebra (rules-of algebra held (now (branches .entry)) (now (weights .entry))) (entry-at algebra (now (values .entry))) r q) ⌝ }
+    ensures { λ _. ⌜ now (grid .exit) ≡ written (rows n (slope algebra (rules-of algebra held (now (branches .entry)) (now (weights .entry))) (entry-at algebra (now (values .entry))))) (n * n) (now (grid .entry)) ⌝ }
 {
     for i in 0..n * n {
         grid[i] = slope_at(held, branches, weights, values, i / n, i % n);
