@@ -1,6 +1,6 @@
 -- Compactness: every run whose routines are all in a list has the weight of a run of the same
 -- routine of dimension at most the length of that list.
-use mathlib.Core.Path.{_≡_, refl, sym, ap, ap₂, subst, _∙_}
+use mathlib.Core.Path.{_≡_, refl, sym, ap, ap₂, _∙_}
 use mathlib.Core.Logic.{_⊎_, inl, inr}
 use mathlib.Core.List.{List, [], _∷_, List·Memᴰ, List·Memᴰ·not-nil}
 use Prim.Native.Nat.{ℕ, zero, suc, _+_, _<_, _≤_}
@@ -11,7 +11,7 @@ use Rattle.semiring.proofs.Dioid.{dioid}
 use Rattle.semiring.proofs.Order
 use Rattle.equations.specs.Rule.{Rule}
 use Rattle.equations.specs.Run.{Runs, none, more, Run, weight}
-use Rattle.equations.proofs.FiniteSums.{beside, beside-weight, single-weight}
+use Rattle.equations.proofs.FiniteSums.{beside, beside-weight}
 use Rattle.equations.proofs.Dimension.{Empty, dimension, Low, Spine, low-spine}
 use Rattle.equations.proofs.Pieces.{size, Inside, Absent, Hole, Repeat, without, without-shorter, inside-without, repeat-root, repeat-child, repeat-rest, seek, missed}
 

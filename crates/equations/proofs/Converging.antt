@@ -1,14 +1,13 @@
 -- What every start, climb and round keeps, and what it comes to: reached values that solve the
 -- equations are the sum over all runs, and n rounds suffice.
-use mathlib.Core.Path.{_≡_, refl, sym, subst, _∙_}
+use mathlib.Core.Path.{_≡_, refl, sym, subst}
 use mathlib.Core.Logic.{_⊎_, inl, inr}
-use mathlib.Core.List.{List, [], _∷_, map, List·Memᴰ, List·Memᴰ·head, List·Memᴰ·tail}
-use Prim.Native.Nat.{ℕ, zero, suc, _<_, _≤_}
+use mathlib.Core.List.{List, [], _∷_, List·Memᴰ, List·Memᴰ·head, List·Memᴰ·tail}
+use Prim.Native.Nat.{ℕ, zero, suc, _<_}
 use native.Mathlib.Nat.{eq-or-lt-of-le, le-of-suc-le-suc}
 use native.Mathlib.Omega.{arith}
 use lib.ListN.{length}
 use Rattle.semiring.specs.Algebra.{Algebra, Under}
-use Rattle.semiring.specs.Sums.{total}
 use Rattle.semiring.proofs.Dioid.{dioid}
 use Rattle.semiring.proofs.Order
 use Rattle.semiring.proofs.Sums

@@ -1,9 +1,9 @@
 -- The dimension of a run. A run without calls has dimension 0; a run has dimension at most i + 1
 -- where the runs that it calls have dimension at most i, but for at most one, and that one at most
 -- i + 1. A round raises by one the dimension up to which all runs lie under the values.
-use mathlib.Core.Path.{_≡_, refl, sym, ap, subst, _∙_}
+use mathlib.Core.Path.{refl, sym}
 use mathlib.Core.Logic.{_⊎_, inl, inr}
-use mathlib.Core.List.{List, [], _∷_, map, List·Memᴰ, List·Memᴰ·head, List·Memᴰ·tail}
+use mathlib.Core.List.{List, _∷_, List·Memᴰ}
 use Prim.Native.Nat.{ℕ, zero, suc, _<_}
 use lib.Dec.{eqb}
 use Rattle.std.proofs.shelf.Tests.{eq-eqb, cond-true}
@@ -11,12 +11,12 @@ use Rattle.semiring.specs.Algebra.{Algebra, Under}
 use Rattle.semiring.proofs.Dioid.{dioid}
 use Rattle.semiring.proofs.Order
 use Rattle.semiring.proofs.Sums
-use Rattle.linear.specs.System.{Least, right-side}
+use Rattle.linear.specs.System.{Least}
 use Rattle.equations.specs.Rule.{Rule, Within}
-use Rattle.equations.specs.Equations.{over, called, others, image, slope}
+use Rattle.equations.specs.Equations.{called, others, image, slope}
 use Rattle.equations.specs.Run.{Runs, none, more, Run, weight}
 use Rattle.equations.proofs.Over.{over-member}
-use Rattle.equations.proofs.FiniteSums.{beside, beside-weight, single-weight}
+use Rattle.equations.proofs.FiniteSums.{single-weight}
 
 -- There is no run.
 abbrev pub Empty : {K : Type 0} {script : List (Rule K)} {qs : List ℕ} → Runs script qs → Type 0

@@ -6,7 +6,7 @@ use mathlib.Core.List.{List, [], _∷_, _++_, map, map-append, List·Memᴰ, Lis
 use Prim.Native.Nat.{ℕ, _<_}
 use lib.Dec.{eqb}
 use Rattle.std.proofs.shelf.Tests.{eqb-true, cond-both}
-use Rattle.semiring.specs.Algebra.{Algebra, Under}
+use Rattle.semiring.specs.Algebra.{Algebra}
 use Rattle.semiring.specs.Sums.{total}
 use Rattle.semiring.proofs.Dioid.{dioid}
 use Rattle.semiring.proofs.Order

@@ -1,5 +1,5 @@
 -- The example: what start and each round give.
-use mathlib.Core.Path.{_≡_, refl, sym}
+use mathlib.Core.Path.{_≡_, refl}
 use mathlib.Core.Bool.{true, false}
 use mathlib.Core.List.{List, [], _∷_}
 use Prim.Native.Nat.{ℕ, zero, suc, _<_}
@@ -10,7 +10,7 @@ use Rattle.semiring.proofs.Order
 use Rattle.linear.specs.System.{Least, right-side, entry-at}
 use Rattle.equations.specs.Rule.{Rule, Within}
 use Rattle.equations.specs.Equations.{image, slope}
-use Rattle.equations.specs.Reached.{Image, Reached, start, climb, round}
+use Rattle.equations.specs.Reached.{Image, Reached, start, round}
 use Rattle.equations.specs.declared.possible.Possible.{Possible}
 use Rattle.equations.specs.Possible.{says, possible}
 use Rattle.equations.specs.Example.{calling, example, ended, Example}

@@ -7,4 +7,5 @@ pub mod Compact
 pub mod Converging
 pub mod Slices
 pub mod Rules
+pub mod Systems
 pub mod FourRoutines

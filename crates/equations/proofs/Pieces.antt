@@ -1,14 +1,14 @@
 -- Runs with a hole, and pieces that can be cut out of runs: a piece leads from a routine down to
 -- the same routine, so what stands below it fits in its place.
-use mathlib.Core.Path.{_≡_, refl, sym, ap, ap₂, subst, _∙_}
+use mathlib.Core.Path.{_≡_, refl, sym, ap, subst, _∙_}
 use mathlib.Core.Logic.{_⊎_, inl, inr}
-use mathlib.Core.Bool.{Bool, true, false, cond}
+use mathlib.Core.Bool.{cond}
 use mathlib.Core.List.{List, [], _∷_, List·Memᴰ, List·Memᴰ·head, List·Memᴰ·tail, List·Memᴰ·not-nil}
-use Prim.Native.Nat.{ℕ, zero, suc, _+_, _<_, _≤_}
+use Prim.Native.Nat.{ℕ, suc, _+_, _<_, _≤_}
 use native.Mathlib.Omega.{arith}
 use lib.Dec.{eqb}
 use lib.ListN.{length}
-use Rattle.std.proofs.shelf.Tests.{cases-eq, eqb-true, eqb-false, eq-eqb, cond-both, cond-true}
+use Rattle.std.proofs.shelf.Tests.{cases-eq, eqb-true, eq-eqb, cond-both, cond-true}
 use Rattle.semiring.specs.Algebra.{Algebra}
 use Rattle.semiring.proofs.Dioid.{dioid}
 use Rattle.semiring.proofs.Order

@@ -1,6 +1,6 @@
 -- Whether a routine has a complete run, as a kind: the truth values, with or for the sum and and for
 -- the product.
-use mathlib.Core.Path.{_≡_, refl, ap}
+use mathlib.Core.Path.{refl, ap}
 use mathlib.Core.Bool.{Bool, true, false, _||_, _&&_}
 use Rattle.semiring.specs.Algebra.{Algebra, Laws}
 use Rattle.semiring.specs.Truth.{truth-laws}

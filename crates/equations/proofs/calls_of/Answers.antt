@@ -1,6 +1,5 @@
 use mathlib.Core.Path.{sym}
 use native.Mathlib.Omega.{arith}
-use lib.ListN.{length}
 use lib.Seq.{take-all}
 use Rattle.equations.proofs.calls_of.Needs as need
 

@@ -1,5 +1,3 @@
-use mathlib.Core.Path.{_≡_}
-use Prim.Native.Nat.{ℕ, _<_}
 use Rattle.linear.specs.System.{entry-at}
 use Rattle.equations.specs.Held.{rules-of}
 use Rattle.equations.specs.Equations.{Solves}
