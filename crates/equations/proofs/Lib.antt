@@ -1,0 +1,11 @@
+pub mod Over
+pub mod Tangent
+pub mod FiniteSums
+pub mod Dimension
+pub mod Pieces
+pub mod Compact
+pub mod Converging
+pub mod Slices
+pub mod Rules
+pub mod Systems
+pub mod FourRoutines
