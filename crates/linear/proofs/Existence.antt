@@ -19,6 +19,13 @@ module _ {K : Type 0} (k : Algebra K) where
   least-unique n a b x y p q r l =
       Order.under-antisym (dioid k) (p .least y (λ i m. Order.equal-under (dioid k) (sym (q .solves i m))) r l) (q .least x (λ i m. Order.equal-under (dioid k) (sym (p .solves i m))) r l)
 
+  -- Only the places below n count.
+  pub least-same : (n : ℕ) (a : ℕ → ℕ → K) (b x y : ℕ → K) → ((r : ℕ) → r < n → y r ≡ x r) → Least k n a b x → Least k n a b y
+  least-same n a b x y same p = record {
+    solves = λ r l. same r l ∙ p .solves r l ∙ ap (λ s. k .plus s (b r)) (Sums.sum-to-ext k _ _ n (λ q m. ap (k .times (a r q)) (sym (same q m))));
+    least = λ z h r l. rw (same r l) (p .least z h r l);
+  }
+
   -- The first term of a sum.
   pub sum-to-front : (f : ℕ → K) (n : ℕ) → sum-to k f (suc n) ≡ k .plus (f zero) (sum-to k (λ i. f (suc i)) n)
   sum-to-front f zero = k .laws .plus-comm (k .zero) (f zero)

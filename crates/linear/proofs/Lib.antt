@@ -1,1 +1,4 @@
 pub mod Existence
+mod Cells
+mod Refinement
+mod Closedness

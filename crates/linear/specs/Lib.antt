@@ -1,1 +1,4 @@
 pub mod System
+pub mod Rows
+pub mod Removal
+pub mod Kleene

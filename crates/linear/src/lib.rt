@@ -1,1 +1,2 @@
 // Linear systems over any kind of weight, and two solvers for them.
+pub mod grid;
