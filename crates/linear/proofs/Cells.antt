@@ -11,7 +11,7 @@ use lib.ListN.{length, getD, set, drop, length-set}
 use lib.Seq.{getD-set-same, getD-set-other, drop-set-lt}
 use Rattle.semiring.specs.Algebra.{Algebra}
 use Rattle.semiring.specs.Sums.{sum-to}
-use Rattle.linear.specs.System.{cell}
+use Rattle.linear.specs.System.{cell, Free}
 use Rattle.linear.specs.Rows.{Square, Rewritten, scaled, added}
 
 -- Cases by whether two numbers are equal.
@@ -23,6 +23,16 @@ same-place : (n i q r j : ℕ) → q < n → j < n → i * n + q ≡ r * n + j �
 same-place n i q r j l m e =
     (sym (digits-div i l) ∙ ap (λ x. x / n) e ∙ digits-div r m, sym (digits-mod i l) ∙ ap (λ x. x % n) e ∙ digits-mod r m)
 
+module _ {K : Type 0} (n : ℕ) where
+  pub free-none : (cells : List K) → Free n cells cells
+  free-none cells = record { size = refl; tail = refl }
+
+  pub free-more : {before now' after : List K} → Free n before now' → Free n now' after → Free n before after
+  free-more h h' = record { size = h' .size ∙ h .size; tail = h' .tail ∙ h .tail }
+
+  pub square-free : {cells cells' : List K} → Square n cells → Free n cells cells' → Square n cells'
+  square-free h f = record { small = h .small; room = rw (f .size) (h .room) }
+
 module _ {K : Type 0} (k : Algebra K) (n : ℕ) where
   pub cell-set-same : (cells : List K) (r q : ℕ) (w : K) → n * n ≤ length cells → r < n → q < n → cell k n (set cells (r * n + q) w) r q ≡ w
   cell-set-same cells r q w room l m = getD-set-same cells (r * n + q) w (k .zero) (omega (arith, digits-lt {q = r} {m = n} {r = q} {c = n} l m))
@@ -30,33 +40,30 @@ module _ {K : Type 0} (k : Algebra K) (n : ℕ) where
   pub cell-set-other : (cells : List K) (r j i q : ℕ) (w : K) → q < n → j < n → (i ≡ r → q ≢ j) → cell k n (set cells (r * n + j) w) i q ≡ cell k n cells i q
   cell-set-other cells r j i q w l m apart = getD-set-other cells (r * n + j) (i * n + q) w (k .zero) (λ e. apart (same-place n i q r j l m e .0) (same-place n i q r j l m e .1))
 
-  pub cells-after : (cells : List K) (r q : ℕ) (w : K) → r < n → q < n → drop (n * n) (set cells (r * n + q) w) ≡ drop (n * n) cells
-  cells-after cells r q w l m = drop-set-lt (n * n) cells (r * n + q) w (digits-lt l m)
+  pub free-set : (cells : List K) (r q : ℕ) (w : K) → r < n → q < n → Free n cells (set cells (r * n + q) w)
+  free-set cells r q w l m = record { size = length-set cells (r * n + q) w; tail = drop-set-lt (n * n) cells (r * n + q) w (digits-lt l m) }
 
   -- One more term of a row's value.
   pub value-turn : (f x : ℕ → K) (s s' t u v : K) (j : ℕ) → s ≡ sum-to k (λ q. k .times (f q) (x q)) j → u ≡ f j → v ≡ x j → t ≡ k .times u v → s' ≡ k .plus s t → s' ≡ sum-to k (λ q. k .times (f q) (x q)) (j + 1)
   value-turn f x s s' t u v j sum read read' product is = rw (add-one j) (is ∙ ap₂ (k .plus) sum (product ∙ ap₂ (k .times) read read'))
 
   pub rewritten-none : (r : ℕ) (f : ℕ → K) (before : List K) → Rewritten k n r 0 f before before
-  rewritten-none r f before = record { done = λ q l. absurd (omega arith); rest = λ i q l m apart. refl; tail = refl }
+  rewritten-none r f before = record { done = λ q l. absurd (omega arith); rest = λ i q l m apart. refl; past = free-none n before }
 
   -- One more place of row r.
   pub rewritten-more : (r j : ℕ) (f : ℕ → K) (before after : List K) (w : K) → n * n ≤ length after → r < n → j < n → w ≡ f j → Rewritten k n r j f before after → Rewritten k n r (j + 1) f before (set after (r * n + j) w)
   rewritten-more r j f before after w room l m is so = record {
     done = λ q h. by-equal q j (λ e. rw e (cell-set-same after r j w room l m ∙ is)) (λ d. cell-set-other after r j r q w (omega arith) m (λ e. d) ∙ so .done q (omega arith));
     rest = λ i q h h' apart. cell-set-other after r j i q w h' m (λ e d. absurd (omega (arith, apart e))) ∙ so .rest i q h h' (λ e. omega (arith, apart e));
-    tail = cells-after after r j w l m ∙ so .tail;
+    past = free-more n (so .past) (free-set after r j w l m);
   }
-
-  pub square-set : (cells : List K) (i : ℕ) (w : K) → Square n cells → Square n (set cells i w)
-  square-set cells i w h = record { small = h .small; room = rw (length-set cells i w) (h .room) }
 
   -- The turn of a loop along row r, at a grid whose size is m, which is n.
   module _ (m r j : ℕ) (size : m ≡ n) (before now' after : List K) (w : K) (h : Square n now') (l : r < n) (l' : j < n) (write : after ≡ set now' (r * m + j) w) where
     row-turn : (f : ℕ → K) → w ≡ f j → Rewritten k n r j f before now' → Square n after × Rewritten k n r (j + 1) f before after
     row-turn f is so =
         let written : after ≡ set now' (r * n + j) w = rw size at write in
-        rw written (square-set now' (r * n + j) w h, rewritten-more r j f before now' w (h .room) l l' is so)
+        rw written (square-free n h (free-set now' r j w l l'), rewritten-more r j f before now' w (h .room) l l' is so)
 
     pub scaled-turn : (by u : K) → u ≡ cell k m now' r j → w ≡ k .times by u → Rewritten k n r j (scaled k n before r by) before now' → Square n after × Rewritten k n r (j + 1) (scaled k n before r by) before after
     scaled-turn by u read is so = row-turn (scaled k n before r by) (is ∙ ap (k .times by) (read ∙ rw size (so .rest r j l l' (λ e. omega arith)))) so

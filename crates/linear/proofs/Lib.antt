@@ -2,3 +2,4 @@ pub mod Existence
 mod Cells
 mod Refinement
 mod Closedness
+mod Steps

@@ -16,7 +16,7 @@ use Rattle.semiring.proofs.Sums
 use Rattle.linear.specs.System.{right-side, Least, cell, entry-at}
 use Rattle.linear.specs.Rows.{Rewritten}
 use Rattle.linear.specs.Removal.{Above, Solves, Refines, Cleared, Removed}
-use Rattle.linear.proofs.Cells.{by-equal, cell-set-same, cell-set-other, cells-after}
+use Rattle.linear.proofs.Cells.{by-equal}
 
 module _ {K : Type 0} (k : Algebra K) (n : ℕ) where
   pub refines-refl : (a : ℕ → ℕ → K) (b : ℕ → K) → Refines k n a b a b
@@ -93,9 +93,9 @@ module _ {K : Type 0} (k : Algebra K) (n : ℕ) where
           ap₂ (k .plus) parted entry ∙ crossed u (k .times (a i p) v) (b i) (k .times (a i p) (b p)) ∙ ap (λ t. k .plus t (k .plus u (b i))) (sym (k .laws .times-plus (a i p) v (b p)))
 
   -- The next unknown.
-  pub cleared-next : (p : ℕ) (a : ℕ → ℕ → K) → Cleared k n p n a → Cleared k n (p + 1) (p + 1) a
-  cleared-next p a h = record {
-    before = λ r q l m o. by-equal q p (λ e. rw e (h .here r (omega arith) l)) (λ d. h .before r q l (omega arith) o);
+  pub cleared-next : (p i : ℕ) (a : ℕ → ℕ → K) → n ≤ i → Cleared k n p i a → Cleared k n (p + 1) (p + 1) a
+  cleared-next p i a all h = record {
+    before = λ r q l m o. by-equal q p (λ e. rw e (h .here r (omega arith) (omega arith))) (λ d. h .before r q l (omega arith) o);
     here = λ r l m. absurd (omega arith);
   }
 

@@ -1,10 +1,10 @@
 -- How the removal of unknowns changes a system, and how far it has come.
 use mathlib.Core.Path.{_≡_}
 use mathlib.Core.List.{List}
-use Prim.Native.Nat.{ℕ, suc, _+_, _*_, _<_, _≤_}
+use Prim.Native.Nat.{ℕ, _<_, _≤_}
 use lib.ListN.{drop}
 use Rattle.semiring.specs.Algebra.{Algebra, Under}
-use Rattle.linear.specs.System.{right-side, cell, entry-at}
+use Rattle.linear.specs.System.{right-side, cell, entry-at, Free}
 
 module _ {K : Type 0} (k : Algebra K) (n : ℕ) where
   -- y has A y + b under it, place by place.
@@ -26,9 +26,10 @@ module _ {K : Type 0} (k : Algebra K) (n : ℕ) where
     pub before : (r q : ℕ) → r < n → q < p → q ≤ r → a r q ≡ k .zero
     pub here : (r : ℕ) → p ≤ r → r < i → a r p ≡ k .zero
 
-  -- A step of the removal of p: row i no longer names p. What lies past the system is as it was.
+  -- The removal has come so far, and the new system may stand for the old one. What lies past the
+  -- system is as it was.
   pub record Removed (p i : ℕ) (grid column grid' column' : List K) : Type 0 where
     pub refines : Refines (cell k n grid) (entry-at k column) (cell k n grid') (entry-at k column')
-    pub cleared : Cleared p (suc i) (cell k n grid')
-    pub cells : drop (n * n) grid' ≡ drop (n * n) grid
+    pub cleared : Cleared p i (cell k n grid')
+    pub cells : Free n grid grid'
     pub places : drop n column' ≡ drop n column

@@ -2,9 +2,9 @@
 use mathlib.Core.Path.{_≡_}
 use mathlib.Core.List.{List}
 use Prim.Native.Nat.{ℕ, _*_, _<_, _≤_}
-use lib.ListN.{length, drop}
+use lib.ListN.{length}
 use Rattle.semiring.specs.Algebra.{Algebra}
-use Rattle.linear.specs.System.{cell}
+use Rattle.linear.specs.System.{cell, Free}
 
 -- The grid of a system in n unknowns stands in the slice, and n is at most 32.
 pub record Square {K : Type 0} (n : ℕ) (cells : List K) : Type 0 where
@@ -24,4 +24,4 @@ module _ {K : Type 0} (k : Algebra K) (n : ℕ) where
   pub record Rewritten (r j : ℕ) (f : ℕ → K) (before after : List K) : Type 0 where
     pub done : (q : ℕ) → q < j → cell k n after r q ≡ f q
     pub rest : (i q : ℕ) → i < n → q < n → (i ≡ r → j ≤ q) → cell k n after i q ≡ cell k n before i q
-    pub tail : drop (n * n) after ≡ drop (n * n) before
+    pub past : Free n before after

@@ -3,7 +3,7 @@
 use mathlib.Core.Path.{_≡_}
 use mathlib.Core.List.{List}
 use Prim.Native.Nat.{ℕ, _+_, _*_, _<_}
-use lib.ListN.{getD}
+use lib.ListN.{length, getD, drop}
 use Rattle.semiring.specs.Algebra.{Algebra, Under}
 use Rattle.semiring.specs.Sums.{sum-to}
 
@@ -25,3 +25,16 @@ cell k n grid r q = getD grid (r * n + q) (k .zero)
 
 abbrev pub entry-at : {K : Type 0} → Algebra K → List K → ℕ → K
 entry-at k column r = getD column r (k .zero)
+
+-- The first n × n places of a grid are free to a solver: of them nothing is said. All others are as
+-- they were.
+pub record Free {K : Type 0} (n : ℕ) (grid grid' : List K) : Type 0 where
+  pub size : length grid' ≡ length grid
+  pub tail : drop (n * n) grid' ≡ drop (n * n) grid
+
+-- What a solver leaves of a system: in the column's first n places the least solution, and past
+-- them what was there.
+pub record Leaves {K : Type 0} (k : Algebra K) (n : ℕ) (grid column grid' column' : List K) : Type 0 where
+  pub least : Least k n (cell k n grid) (entry-at k column) (entry-at k column')
+  pub places : drop n column' ≡ drop n column
+  pub cells : Free n grid grid'

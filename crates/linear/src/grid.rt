@@ -16,14 +16,14 @@ fn place(n: usize, r: usize, q: usize) -> usize
     r * n + q
 }
 
-fn read<K: Semiring>(cells: &[K], i: usize) -> K
+pub(crate) fn read<K: Semiring>(cells: &[K], i: usize) -> K
     requires { ⌜ i < length (now cells) ⌝ }
     ensures { λ w. ⌜ w ≡ getD (now (cells .entry)) i (algebra .zero) ⌝ }
 {
     cells[i]
 }
 
-fn write<K: Semiring>(cells: &mut [K], i: usize, weight: K)
+pub(crate) fn write<K: Semiring>(cells: &mut [K], i: usize, weight: K)
     requires { ⌜ i < length (now cells) ⌝ }
     ensures { λ _. ⌜ now (cells .exit) ≡ set (now (cells .entry)) i weight ⌝ }
 {

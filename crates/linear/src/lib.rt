@@ -1,2 +1,3 @@
 // Linear systems over any kind of weight, and two solvers for them.
+pub mod elimination;
 pub mod grid;
