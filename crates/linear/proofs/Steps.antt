@@ -3,16 +3,18 @@ use mathlib.Core.Path.{_≡_, refl, sym, ap, ap₂, subst, _∙_}
 use mathlib.Core.List.{List}
 use mathlib.Core.Logic.{_≢_}
 use Prim.Native.Nat.{ℕ, suc, _+_, _-_, _*_, _<_, _≤_}
+use native.Mathlib.Decide.{decLt}
 use native.Mathlib.Omega.{arith}
 use lib.ListN.{length, set, drop}
 use lib.Seq.{getD-set-same, getD-set-other, drop-set-lt}
 use Rattle.semiring.specs.Algebra.{Algebra}
-use Rattle.semiring.proofs.Dioid.{dioid}
-use Rattle.semiring.proofs.Order
+use Rattle.semiring.proofs.Star
 use Rattle.linear.specs.System.{cell, entry-at, right-side, Least, Free, Leaves}
 use Rattle.linear.specs.Rows.{Square, Rewritten, scaled, added}
+use Rattle.linear.specs.Kleene.{Passed, Stepped, Closed}
 use Rattle.linear.specs.Removal.{Refines, Cleared, Removed}
 use Rattle.linear.proofs.Cells.{by-equal, cell-set-same, cell-set-other, free-none, free-more, free-set, square-free}
+use Rattle.linear.proofs.Closedness.{closed-more, Multiplied, multiplied-more}
 use Rattle.linear.proofs.Refinement.{refines-refl, refines-trans, refines-least, refines-scaled, refines-added, cleared-next, Back, back-more}
 
 module _ {K : Type 0} (k : Algebra K) (n : ℕ) where
@@ -144,3 +146,70 @@ module _ {K : Type 0} (k : Algebra K) (n : ℕ) where
       let least' : Least k n (cell k n grid') (entry-at k column') (entry-at k column'') = rw size at least in
       let tail' : drop n column'' ≡ drop n column' = rw size at tail in
       record { least = refines-least k n (so .refines) least'; places = tail' ∙ so .places; cells = rw is (so .cells) }
+
+  -- The rows that p is passed to, at a grid whose size is m, which is n.
+  pub passed-none : (p from : ℕ) (grid : List K) → Passed k n p from from grid grid
+  passed-none p from grid = record { inside = λ i q l l' o. absurd (omega arith); outside = λ i q l o apart. refl; past = free-none n grid }
+
+  pub passed-turn : (m p from i : ℕ) → m ≡ n → (grid grid' grid'' : List K) (by : K) → Square n grid' → from ≤ i → i < n → p < n → (from ≤ p → p < i + 1 → ⊥) → by ≡ cell k m grid' i p → Rewritten k m i m (added k m grid' i by p) grid' grid'' → Passed k n p from i grid grid' → Square n grid'' × Passed k n p from (i + 1) grid grid''
+  passed-turn m p from i size grid grid' grid'' by h l l' o apart read row so =
+      let row' : Rewritten k n i n (added k n grid' i by p) grid' grid'' = rw size at row in
+      let read' : by ≡ cell k n grid' i p = rw size at read in
+      (square-free n h (row' .past), record {
+        inside = λ r q b b' u. by-equal r i (λ e. rw e (row' .done q u ∙ ap₂ (k .plus) (before i q l' u (λ _ b. omega arith)) (ap₂ (k .times) (read' ∙ before i p l' o (λ _ b. omega arith)) (before p q o u (λ b b'. apart b (omega arith)))))) (λ d. row' .rest r q (omega arith) u (λ e. absurd (d e)) ∙ so .inside r q b (omega arith) u);
+        outside = λ r q b u d. row' .rest r q b u (λ e. absurd (d (omega arith) (omega arith))) ∙ so .outside r q b u (λ b b'. d b (omega arith));
+        past = free-more n (so .past) (row' .past);
+      })
+    where
+      before : (r q : ℕ) → r < n → q < n → (from ≤ r → r < i → ⊥) → cell k n grid' r q ≡ cell k n grid r q
+      before = so .outside
+
+  -- A step of Kleene's scheme: row p times its star, and then passed to the rows before and after.
+  pub stepped : (m m' p : ℕ) → m ≡ n → m' ≡ n → (grid scaled-grid low-grid grid' : List K) (w by : K) → p < n → w ≡ cell k n grid p p → by ≡ k .star w → Rewritten k n p n (scaled k n grid p by) grid scaled-grid → Passed k m p 0 p scaled-grid low-grid → Passed k m' p (p + 1) m low-grid grid' → Stepped k n p (cell k n grid) (cell k n grid') × Free n grid grid'
+  stepped m m' p size size' grid scaled-grid low-grid grid' w by l read star row before after =
+      let low : Passed k n p 0 p scaled-grid low-grid = rw size at before in
+      let high : Passed k n p (p + 1) n low-grid grid' = rw (size', size) at after in
+      (joined low high, free-more n (row .past) (free-more n (low .past) (high .past)))
+    where
+      other : (i q : ℕ) → i < n → q < n → i ≢ p → cell k n scaled-grid i q ≡ cell k n grid i q
+      other i q o u d = row .rest i q o u (λ e. absurd (d e))
+
+      here : (q : ℕ) → q < n → cell k n scaled-grid p q ≡ k .times (k .star (cell k n grid p p)) (cell k n grid p q)
+      here q u = row .done q u ∙ ap (λ s. k .times s (cell k n grid p q)) (star ∙ ap (k .star) read)
+
+      through : (i q : ℕ) → i < n → q < n → i ≢ p → added k n scaled-grid i (cell k n scaled-grid i p) p q ≡ k .plus (cell k n grid i q) (k .times (cell k n grid i p) (k .times (k .star (cell k n grid p p)) (cell k n grid p q)))
+      through i q o u d = ap₂ (k .plus) (other i q o u d) (ap₂ (k .times) (other i p o l d) (here q u))
+
+      joined : Passed k n p 0 p scaled-grid low-grid → Passed k n p (p + 1) n low-grid grid' → Stepped k n p (cell k n grid) (cell k n grid')
+      joined low high i q o u = by-equal i p at-p apart
+        where
+          at-p : i ≡ p → cell k n grid' i q ≡ k .plus (cell k n grid i q) (k .times (cell k n grid i p) (k .times (k .star (cell k n grid p p)) (cell k n grid p q)))
+          at-p e =
+              rw e (high .outside p q l u (λ b b'. omega arith) ∙ low .outside p q l u (λ b b'. omega arith) ∙ here q u ∙ Star.star-solves k (cell k n grid p p) (cell k n grid p q) ∙ k .laws .plus-comm _ _)
+
+          below : i < p → cell k n grid' i q ≡ added k n scaled-grid i (cell k n scaled-grid i p) p q
+          below b = high .outside i q o u (λ t t'. omega arith) ∙ low .inside i q (omega arith) b u
+
+          same : (r j : ℕ) → r < n → j < n → p ≤ r → cell k n low-grid r j ≡ cell k n scaled-grid r j
+          same r j o u b = low .outside r j o u (λ t t'. omega arith)
+
+          above : p < i → cell k n grid' i q ≡ added k n scaled-grid i (cell k n scaled-grid i p) p q
+          above b = high .inside i q (omega arith) o u ∙ ap₂ (k .plus) (same i q o u (omega arith)) (ap₂ (k .times) (same i p o l (omega arith)) (same p q l u (omega arith)))
+
+          apart : i ≢ p → cell k n grid' i q ≡ k .plus (cell k n grid i q) (k .times (cell k n grid i p) (k .times (k .star (cell k n grid p p)) (cell k n grid p q)))
+          apart d = elim (decLt i p) [ yes b ↦ below b ∙ through i q o u d | no b ↦ above (omega arith) ∙ through i q o u d ]
+
+  pub form-turn : (m p : ℕ) → m ≡ n → (grid grid' grid'' : List K) → p < n → Free n grid grid' → Closed k n p (cell k n grid) (cell k n grid') → Stepped k m p (cell k m grid') (cell k m grid'') → Free m grid' grid'' → Free n grid grid'' × Closed k n (p + 1) (cell k n grid) (cell k n grid'')
+  form-turn m p size grid grid' grid'' l past so step past' =
+      let step' : Stepped k n p (cell k n grid') (cell k n grid'') = rw size at step in
+      let past'' : Free n grid' grid'' = rw size at past' in
+      (free-more n past past'', closed-more k n p (cell k n grid) (cell k n grid') (cell k n grid'') l step' so)
+
+  pub multiply-turn : (r : ℕ) (grid column column' column'' : List K) → r < n → n ≤ length column' → ((a : ℕ → ℕ → K) → Closed k n n a (cell k n grid) → Multiplied k n r (cell k n grid) (entry-at k column) (entry-at k column')) → drop n column' ≡ drop n column → column'' ≡ set column' r (right-side k n (cell k n grid) (entry-at k column') (entry-at k column') r) → ((a : ℕ → ℕ → K) → Closed k n n a (cell k n grid) → Multiplied k n (r + 1) (cell k n grid) (entry-at k column) (entry-at k column'')) × (drop n column'' ≡ drop n column)
+  multiply-turn r grid column column' column'' l fits so tail write =
+      (λ a h. multiplied-more k n r a (cell k n grid) (entry-at k column) (entry-at k column') l h (so a h) (entry-at k column'') (entry-here column' column'' r _ write (omega arith)) (entry-other column' column'' r _ write), places-are column' column'' r _ write l ∙ tail)
+
+  pub leaves-closed : (m : ℕ) → m ≡ n → (grid column grid' column' end : List K) → end ≡ grid' → Closed k n n (cell k n grid) (cell k n grid') → Free n grid grid' → ((a : ℕ → ℕ → K) → Closed k m m a (cell k m grid') → Least k m a (entry-at k column) (entry-at k column')) → drop m column' ≡ drop m column → Leaves k n grid column end column'
+  leaves-closed m size grid column grid' column' end is so past least tail =
+      let least' : (a : ℕ → ℕ → K) → Closed k n n a (cell k n grid') → Least k n a (entry-at k column) (entry-at k column') = rw size at least in
+      record { least = least' (cell k n grid) so; places = rw size at tail; cells = rw is past }

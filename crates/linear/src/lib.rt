@@ -1,3 +1,4 @@
 // Linear systems over any kind of weight, and two solvers for them.
+pub mod closure;
 pub mod elimination;
 pub mod grid;
