@@ -3,3 +3,4 @@ mod Cells
 mod Refinement
 mod Closedness
 mod Steps
+mod Uniqueness

@@ -8,6 +8,9 @@ ghost use Rattle.linear.specs.System.{cell, entry-at, Least, Free, Leaves};
 ghost use Rattle.linear.specs.Rows.{Square};
 ghost use Rattle.linear.specs.Kleene.{Passed, Stepped, Closed};
 use crate::grid::Grid;
+use crate::refusal::Refusal;
+use crate::solver::Solver;
+use crate::solver::check;
 use semiring::Semiring;
 
 // Adds row p to the rows from `from` up to `to`, multiplied by what each has at p.
@@ -70,4 +73,40 @@ fn close<K: Semiring>(n: usize, cells: &mut [K], column: &mut [K])
     let mut grid = Grid { cells, n };
     form(&mut grid);
     multiply(&grid, column);
+}
+
+// Closure, with the count of systems that it has solved.
+#[derive(Drop)]
+pub struct Closure {
+    count: u32,
+}
+
+impl Closure {
+    pub fn new() -> Closure
+        ensures { λ r. ⌜ r .count ≡ 0 ⌝ }
+    {
+        Closure::counting_from(0)
+    }
+
+    // One that has solved so many systems before.
+    pub fn counting_from(count: u32) -> Closure
+        ensures { λ r. ⌜ r .count ≡ count ⌝ }
+    {
+        Closure { count }
+    }
+}
+
+pub impl Solver for Closure as ClosureSolver {
+    ghost calls = { λ s. s .count };
+
+    fn solve<K: Semiring>(&mut self, n: usize, grid: &mut [K], column: &mut [K]) -> Result<(), Refusal> {
+        check(n, grid, column)?;
+        close(n, grid, column);
+        self.count = self.count.saturating_add(1);
+        Ok(())
+    }
+
+    fn count(&self) -> u32 {
+        self.count
+    }
 }

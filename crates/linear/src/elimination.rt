@@ -9,6 +9,9 @@ ghost use Rattle.linear.specs.Removal.{Cleared, Removed};
 use crate::grid::Grid;
 use crate::grid::read;
 use crate::grid::write;
+use crate::refusal::Refusal;
+use crate::solver::Solver;
+use crate::solver::check;
 use semiring::Semiring;
 
 // Solves row p for its own unknown: p goes out of it, and the rest is multiplied by the star.
@@ -84,4 +87,40 @@ fn eliminate<K: Semiring>(n: usize, cells: &mut [K], column: &mut [K])
     let mut grid = Grid { cells, n };
     remove_all(&mut grid, column);
     put_back(&grid, column);
+}
+
+// Elimination, with the count of systems that it has solved.
+#[derive(Drop)]
+pub struct Elimination {
+    count: u32,
+}
+
+impl Elimination {
+    pub fn new() -> Elimination
+        ensures { λ r. ⌜ r .count ≡ 0 ⌝ }
+    {
+        Elimination::counting_from(0)
+    }
+
+    // One that has solved so many systems before.
+    pub fn counting_from(count: u32) -> Elimination
+        ensures { λ r. ⌜ r .count ≡ count ⌝ }
+    {
+        Elimination { count }
+    }
+}
+
+pub impl Solver for Elimination as EliminationSolver {
+    ghost calls = { λ s. s .count };
+
+    fn solve<K: Semiring>(&mut self, n: usize, grid: &mut [K], column: &mut [K]) -> Result<(), Refusal> {
+        check(n, grid, column)?;
+        eliminate(n, grid, column);
+        self.count = self.count.saturating_add(1);
+        Ok(())
+    }
+
+    fn count(&self) -> u32 {
+        self.count
+    }
 }

@@ -1,4 +1,7 @@
 // Linear systems over any kind of weight, and two solvers for them.
+pub mod agreement;
 pub mod closure;
 pub mod elimination;
 pub mod grid;
+pub mod refusal;
+pub mod solver;
