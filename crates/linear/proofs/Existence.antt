@@ -11,7 +11,7 @@ use Rattle.semiring.proofs.Order
 use Rattle.semiring.proofs.Powers
 use Rattle.semiring.proofs.Star
 use Rattle.semiring.proofs.Sums
-use Rattle.linear.specs.System.{right-side, Least}
+use Rattle.linear.specs.System.{right-side, Least, One-solution}
 
 module _ {K : Type 0} (k : Algebra K) where
   -- Two least solutions of one system are equal place by place.
@@ -112,6 +112,9 @@ module _ {K : Type 0} (k : Algebra K) where
   unfolding solution
   solution-least zero a b = record { solves = λ r l. absurd (omega arith); least = λ y h r l. absurd (omega arith) }
   solution-least (suc n) a b = extended-least n a b (solution n (rest-grid a) (rest-column a b)) (solution-least n (rest-grid a) (rest-column a b))
+
+  pub one-solution : One-solution k
+  one-solution = record { some = λ n a b. (solution n a b, solution-least n a b); unique = least-unique }
 
   -- What zero, sums and the products with a keep, the star of a keeps too.
   pub star-in : (F : K → Type 0) → ((v w : K) → F v → F w → F (k .plus v w)) → (a : K) → ((w : K) → F w → F (k .times a w)) → (w : K) → F w → F (k .times (k .star a) w)

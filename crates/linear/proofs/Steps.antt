@@ -14,8 +14,8 @@ use Rattle.linear.specs.Rows.{Square, Rewritten, scaled, added}
 use Rattle.linear.specs.Kleene.{Passed, Stepped, Closed}
 use Rattle.linear.specs.Removal.{Refines, Cleared, Removed}
 use Rattle.linear.proofs.Cells.{by-equal, cell-set-same, cell-set-other, free-none, free-more, free-set, square-free}
-use Rattle.linear.proofs.Closedness.{closed-more, Multiplied, multiplied-more}
-use Rattle.linear.proofs.Refinement.{refines-refl, refines-trans, refines-least, refines-scaled, refines-added, cleared-next, Back, back-more}
+use Rattle.linear.proofs.Closedness.{closed-none, closed-more, Multiplied, multiplied-none, multiplied-more, multiplied-all}
+use Rattle.linear.proofs.Refinement.{refines-refl, refines-trans, refines-least, refines-scaled, refines-added, cleared-next, Back, back-none, back-more}
 
 module _ {K : Type 0} (k : Algebra K) (n : ℕ) where
   zero-row : (s u : K) → u ≡ k .zero → k .times s u ≡ k .zero
@@ -136,6 +136,9 @@ module _ {K : Type 0} (k : Algebra K) (n : ℕ) where
   pub removed-all : (m : ℕ) → m ≡ n → (grid column grid' column' : List K) → Square n grid → n ≤ length column' → Removed k n n n grid column grid' column' → (Square m grid' × m ≤ length column') × Cleared k m m m (cell k m grid')
   removed-all m size grid column grid' column' h fits so = rw size ((square-free n h (so .cells), fits), so .cleared)
 
+  pub back-start : (grid column : List K) → Back k n n (cell k n grid) (entry-at k column) (entry-at k column) × (drop n column ≡ drop n column)
+  back-start grid column = (back-none k n (cell k n grid) (entry-at k column), refl)
+
   pub back-turn : (r : ℕ) (grid column column' column'' : List K) → 0 < r → r ≤ n → n ≤ length column' → Cleared k n n n (cell k n grid) → Back k n r (cell k n grid) (entry-at k column) (entry-at k column') → drop n column' ≡ drop n column → column'' ≡ set column' (r - 1) (right-side k n (cell k n grid) (entry-at k column') (entry-at k column') (r - 1)) → Back k n (r - 1) (cell k n grid) (entry-at k column) (entry-at k column'') × (drop n column'' ≡ drop n column)
   back-turn r grid column column' column'' l m fits clear so tail write =
       let e : suc (r - 1) ≡ r = omega arith in
@@ -199,11 +202,23 @@ module _ {K : Type 0} (k : Algebra K) (n : ℕ) where
           apart : i ≢ p → cell k n grid' i q ≡ k .plus (cell k n grid i q) (k .times (cell k n grid i p) (k .times (k .star (cell k n grid p p)) (cell k n grid p q)))
           apart d = elim (decLt i p) [ yes b ↦ below b ∙ through i q o u d | no b ↦ above (omega arith) ∙ through i q o u d ]
 
+  pub form-start : (grid : List K) → Free n grid grid × Closed k n 0 (cell k n grid) (cell k n grid)
+  form-start grid = (free-none n grid, closed-none k n (cell k n grid))
+
+  pub form-end : (p : ℕ) (grid grid' : List K) → p ≡ n → Closed k n p (cell k n grid) (cell k n grid') → Closed k n n (cell k n grid) (cell k n grid')
+  form-end p grid grid' all so = rw all at so
+
   pub form-turn : (m p : ℕ) → m ≡ n → (grid grid' grid'' : List K) → p < n → Free n grid grid' → Closed k n p (cell k n grid) (cell k n grid') → Stepped k m p (cell k m grid') (cell k m grid'') → Free m grid' grid'' → Free n grid grid'' × Closed k n (p + 1) (cell k n grid) (cell k n grid'')
   form-turn m p size grid grid' grid'' l past so step past' =
       let step' : Stepped k n p (cell k n grid') (cell k n grid'') = rw size at step in
       let past'' : Free n grid' grid'' = rw size at past' in
       (free-more n past past'', closed-more k n p (cell k n grid) (cell k n grid') (cell k n grid'') l step' so)
+
+  pub multiply-start : (grid column : List K) → ((a : ℕ → ℕ → K) → Closed k n n a (cell k n grid) → Multiplied k n 0 (cell k n grid) (entry-at k column) (entry-at k column)) × (drop n column ≡ drop n column)
+  multiply-start grid column = (λ a h. multiplied-none k n (cell k n grid) (entry-at k column), refl)
+
+  pub multiply-end : (r : ℕ) (grid column column' : List K) → r ≡ n → ((a : ℕ → ℕ → K) → Closed k n n a (cell k n grid) → Multiplied k n r (cell k n grid) (entry-at k column) (entry-at k column')) → (a : ℕ → ℕ → K) → Closed k n n a (cell k n grid) → Least k n a (entry-at k column) (entry-at k column')
+  multiply-end r grid column column' all so a h = multiplied-all k n a (cell k n grid) (entry-at k column) (entry-at k column') h (subst (λ r. Multiplied k n r (cell k n grid) (entry-at k column) (entry-at k column')) all (so a h))
 
   pub multiply-turn : (r : ℕ) (grid column column' column'' : List K) → r < n → n ≤ length column' → ((a : ℕ → ℕ → K) → Closed k n n a (cell k n grid) → Multiplied k n r (cell k n grid) (entry-at k column) (entry-at k column')) → drop n column' ≡ drop n column → column'' ≡ set column' r (right-side k n (cell k n grid) (entry-at k column') (entry-at k column') r) → ((a : ℕ → ℕ → K) → Closed k n n a (cell k n grid) → Multiplied k n (r + 1) (cell k n grid) (entry-at k column) (entry-at k column'')) × (drop n column'' ≡ drop n column)
   multiply-turn r grid column column' column'' l fits so tail write =

@@ -18,6 +18,11 @@ module _ {K : Type 0} (k : Algebra K) (n : ℕ) where
     pub solves : (r : ℕ) → r < n → x r ≡ right-side a b x r
     pub least : (y : ℕ → K) → ((r : ℕ) → r < n → Under k (right-side a b y r) (y r)) → (r : ℕ) → r < n → Under k (x r) (y r)
 
+-- Whatever the kind, every system has a least solution, and no two.
+pub record One-solution {K : Type 0} (k : Algebra K) : Type 0 where
+  pub some : (n : ℕ) (a : ℕ → ℕ → K) (b : ℕ → K) → (x : ℕ → K) × Least k n a b x
+  pub unique : (n : ℕ) (a : ℕ → ℕ → K) (b x y : ℕ → K) → Least k n a b x → Least k n a b y → (r : ℕ) → r < n → x r ≡ y r
+
 -- The grid of a system as it lies in a slice: row r, place q at r × n + q. A column has the value
 -- of row r at r.
 abbrev pub cell : {K : Type 0} → Algebra K → ℕ → List K → ℕ → ℕ → K

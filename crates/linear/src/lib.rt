@@ -5,3 +5,6 @@ pub mod elimination;
 pub mod grid;
 pub mod refusal;
 pub mod solver;
+
+#[cfg(test)]
+mod tests;

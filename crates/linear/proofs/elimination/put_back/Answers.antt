@@ -1,15 +1,11 @@
-use mathlib.Core.Path.{refl}
 use native.Mathlib.Omega.{arith}
 use denote.Ref.{now}
-use Rattle.linear.specs.System.{cell, entry-at}
-use Rattle.linear.proofs.Refinement.{back-none}
-use Rattle.linear.proofs.Steps.{back-turn}
+use Rattle.linear.proofs.Steps.{back-start, back-turn}
 use Rattle.linear.proofs.elimination.put_back.Needs as need
 
 pub loop-r-holds : need.loop-r-holds
-loop-r-holds g c =
-    let k = g .K·Semiring .algebra in
-    (back-none k (c .args .grid .now .n) (cell k (c .args .grid .now .n) (now (c .args .grid .now .cells))) (entry-at k (c .args .column .now)), refl)
+loop-r-holds g c = back-start (g .K·Semiring .algebra) (c .args .grid .now .n) (now (c .args .grid .now .cells)) (c .args .column .now)
 
 pub loop-r-again : need.loop-r-again
-loop-r-again g c = back-turn (g .K·Semiring .algebra) (c .args .grid .now .n) (c .loop-r .r) (now (c .args .grid .now .cells)) (c .args .column .now) (c .loop-r .column) (c .apply .last .column) (c .loop-r-test .taken) (c .loop-r .kept .r) (omega arith) (c .pre .1) (c .loop-r .inv .0) (c .loop-r .inv .1) (c .apply .ensures)
+loop-r-again g c =
+    back-turn (g .K·Semiring .algebra) (c .args .grid .now .n) (c .loop-r .r) (now (c .args .grid .now .cells)) (c .args .column .now) (c .loop-r .column) (c .apply .last .column) (c .loop-r-test .taken) (c .loop-r .kept .r) (omega arith) (c .pre .1) (c .loop-r .inv .0) (c .loop-r .inv .1) (c .apply .ensures)
