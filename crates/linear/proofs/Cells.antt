@@ -47,8 +47,14 @@ module _ {K : Type 0} (k : Algebra K) (n : ℕ) where
   pub value-turn : (f x : ℕ → K) (s s' t u v : K) (j : ℕ) → s ≡ sum-to k (λ q. k .times (f q) (x q)) j → u ≡ f j → v ≡ x j → t ≡ k .times u v → s' ≡ k .plus s t → s' ≡ sum-to k (λ q. k .times (f q) (x q)) (j + 1)
   value-turn f x s s' t u v j sum read read' product is = rw (add-one j) (is ∙ ap₂ (k .plus) sum (product ∙ ap₂ (k .times) read read'))
 
+  pub value-end : (f x : ℕ → K) (s s' t : K) (j r : ℕ) → j ≡ n → s ≡ sum-to k (λ q. k .times (f q) (x q)) j → t ≡ x r → s' ≡ k .plus s t → s' ≡ k .plus (sum-to k (λ q. k .times (f q) (x q)) n) (x r)
+  value-end f x s s' t j r all sum read is = is ∙ ap₂ (k .plus) (rw all at sum) read
+
   pub rewritten-none : (r : ℕ) (f : ℕ → K) (before : List K) → Rewritten k n r 0 f before before
   rewritten-none r f before = record { done = λ q l. absurd (omega arith); rest = λ i q l m apart. refl; past = free-none n before }
+
+  pub rewritten-all : (r j : ℕ) (f : ℕ → K) (before after : List K) → j ≡ n → Rewritten k n r j f before after → Rewritten k n r n f before after
+  rewritten-all r j f before after all so = rw all at so
 
   -- One more place of row r.
   pub rewritten-more : (r j : ℕ) (f : ℕ → K) (before after : List K) (w : K) → n * n ≤ length after → r < n → j < n → w ≡ f j → Rewritten k n r j f before after → Rewritten k n r (j + 1) f before (set after (r * n + j) w)

@@ -15,7 +15,7 @@ use Rattle.linear.specs.Kleene.{Passed, Stepped, Closed}
 use Rattle.linear.specs.Removal.{Refines, Cleared, Removed}
 use Rattle.linear.proofs.Cells.{by-equal, cell-set-same, cell-set-other, free-none, free-more, free-set, square-free}
 use Rattle.linear.proofs.Closedness.{closed-none, closed-more, Multiplied, multiplied-none, multiplied-more, multiplied-all}
-use Rattle.linear.proofs.Refinement.{refines-refl, refines-trans, refines-least, refines-scaled, refines-added, cleared-next, Back, back-none, back-more}
+use Rattle.linear.proofs.Refinement.{refines-refl, refines-trans, refines-least, refines-scaled, refines-added, cleared-next, Back, back-none, back-more, back-all}
 
 module _ {K : Type 0} (k : Algebra K) (n : ℕ) where
   zero-row : (s u : K) → u ≡ k .zero → k .times s u ≡ k .zero
@@ -124,6 +124,9 @@ module _ {K : Type 0} (k : Algebra K) (n : ℕ) where
       let step' : Removed k n p' i' grid' column' grid'' column'' = rw size at step in
       (square-free n h (step' .cells), removed-more so step')
 
+  pub remove-all-end : (p : ℕ) (grid column grid' column' : List K) → p ≡ n → Removed k n p p grid column grid' column' → Removed k n n n grid column grid' column'
+  remove-all-end p grid column grid' column' all so = rw all at so
+
   pub remove-start : (m p i : ℕ) → m ≡ n → (grid column grid' column' : List K) → Square n grid → Removed k n p i grid column grid' column' → Square m grid' × Removed k m p i grid' column' grid' column'
   remove-start m p i size grid column grid' column' h so = rw size (square-free n h (so .cells), removed-none p i grid' column' (so .cleared))
 
@@ -143,6 +146,9 @@ module _ {K : Type 0} (k : Algebra K) (n : ℕ) where
   back-turn r grid column column' column'' l m fits clear so tail write =
       let e : suc (r - 1) ≡ r = omega arith in
       (back-more k n (r - 1) (cell k n grid) (entry-at k column) (entry-at k column') (entry-at k column'') (omega arith) (λ r q o o' b. clear .before r q o o' b) (entry-here column' column'' (r - 1) _ write (omega arith)) (entry-other column' column'' (r - 1) _ write) (rw e so), places-are column' column'' (r - 1) _ write (omega arith) ∙ tail)
+
+  pub back-end : (r : ℕ) (grid column column' : List K) → r ≡ 0 → Back k n r (cell k n grid) (entry-at k column) (entry-at k column') → Least k n (cell k n grid) (entry-at k column) (entry-at k column')
+  back-end r grid column column' none so = back-all k n (cell k n grid) (entry-at k column) (entry-at k column') (rw none at so)
 
   pub leaves-back : (m : ℕ) → m ≡ n → (grid column grid' column' column'' end : List K) → end ≡ grid' → Removed k n n n grid column grid' column' → Least k m (cell k m grid') (entry-at k column') (entry-at k column'') → drop m column'' ≡ drop m column' → Leaves k n grid column end column''
   leaves-back m size grid column grid' column' column'' end is so least tail =
