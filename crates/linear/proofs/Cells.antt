@@ -30,6 +30,10 @@ module _ {K : Type 0} (n : ℕ) where
   pub free-more : {before now' after : List K} → Free n before now' → Free n now' after → Free n before after
   free-more h h' = record { size = h' .size ∙ h .size; tail = h' .tail ∙ h .tail }
 
+  -- A cell of a grid whose size is m, which is n.
+  pub within : {cells : List K} {m r q : ℕ} → m ≡ n → Square n cells → r < n → q < n → Square m cells × ((r < m) × (q < m))
+  within size h l l' = rw size (h, (l, l'))
+
   pub square-free : {cells cells' : List K} → Square n cells → Free n cells cells' → Square n cells'
   square-free h f = record { small = h .small; room = rw (f .size) (h .room) }
 

@@ -89,7 +89,7 @@ module _ {K : Type 0} (k : Algebra K) (n : ℕ) where
           let u = sum-to k (λ q. k .times (z q) (y q)) n in
           let v = sum-to k (λ q. k .times (a p q) (y q)) n in
           let parted : sum-to k (λ q. k .times (a' i q) (y q)) n ≡ k .plus u (k .times (a i p) v) =
-            Sums.sum-to-ext k _ (λ q. k .plus (k .times (z q) (y q)) (k .times (a i p) (k .times (a p q) (y q)))) n (λ q m. ap (λ c. k .times c (y q)) (row q m) ∙ spread (z q) (a i p) (a p q) (y q)) ∙ Sums.sum-to-plus k _ _ n ∙ ap (k .plus u) (sym (Sums.sum-to-times k (a i p) _ n)) in
+          Sums.sum-to-ext k _ (λ q. k .plus (k .times (z q) (y q)) (k .times (a i p) (k .times (a p q) (y q)))) n (λ q m. ap (λ c. k .times c (y q)) (row q m) ∙ spread (z q) (a i p) (a p q) (y q)) ∙ Sums.sum-to-plus k _ _ n ∙ ap (k .plus u) (sym (Sums.sum-to-times k (a i p) _ n)) in
           ap₂ (k .plus) parted entry ∙ crossed u (k .times (a i p) v) (b i) (k .times (a i p) (b p)) ∙ ap (λ t. k .plus t (k .plus u (b i))) (sym (k .laws .times-plus (a i p) v (b p)))
 
   -- The next unknown.

@@ -163,12 +163,14 @@ module _ {K : Type 0} (k : Algebra K) (n : ℕ) where
   pub passed-turn : (m p from i : ℕ) → m ≡ n → (grid grid' grid'' : List K) (by : K) → Square n grid' → from ≤ i → i < n → p < n → (from ≤ p → p < i + 1 → ⊥) → by ≡ cell k m grid' i p → Rewritten k m i m (added k m grid' i by p) grid' grid'' → Passed k n p from i grid grid' → Square n grid'' × Passed k n p from (i + 1) grid grid''
   passed-turn m p from i size grid grid' grid'' by h l l' o apart read row so =
       let row' : Rewritten k n i n (added k n grid' i by p) grid' grid'' = rw size at row in
-      let read' : by ≡ cell k n grid' i p = rw size at read in
-      (square-free n h (row' .past), record {
-        inside = λ r q b b' u. by-equal r i (λ e. rw e (row' .done q u ∙ ap₂ (k .plus) (before i q l' u (λ _ b. omega arith)) (ap₂ (k .times) (read' ∙ before i p l' o (λ _ b. omega arith)) (before p q o u (λ b b'. apart b (omega arith)))))) (λ d. row' .rest r q (omega arith) u (λ e. absurd (d e)) ∙ so .inside r q b (omega arith) u);
-        outside = λ r q b u d. row' .rest r q b u (λ e. absurd (d (omega arith) (omega arith))) ∙ so .outside r q b u (λ b b'. d b (omega arith));
-        past = free-more n (so .past) (row' .past);
-      })
+      let read' : by ≡ cell k n grid' i p = rw size at read in (
+        square-free n h (row' .past),
+        record {
+          inside = λ r q b b' u. by-equal r i (λ e. rw e (row' .done q u ∙ ap₂ (k .plus) (before i q l' u (λ _ b. omega arith)) (ap₂ (k .times) (read' ∙ before i p l' o (λ _ b. omega arith)) (before p q o u (λ b b'. apart b (omega arith)))))) (λ d. row' .rest r q (omega arith) u (λ e. absurd (d e)) ∙ so .inside r q b (omega arith) u);
+          outside = λ r q b u d. row' .rest r q b u (λ e. absurd (d (omega arith) (omega arith))) ∙ so .outside r q b u (λ b b'. d b (omega arith));
+          past = free-more n (so .past) (row' .past);
+        },
+      )
     where
       before : (r q : ℕ) → r < n → q < n → (from ≤ r → r < i → ⊥) → cell k n grid' r q ≡ cell k n grid r q
       before = so .outside

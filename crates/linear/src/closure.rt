@@ -11,6 +11,7 @@ use crate::grid::Grid;
 use crate::refusal::Refusal;
 use crate::solver::Solver;
 use crate::solver::check;
+use crate::solver::raise;
 use semiring::Semiring;
 
 // Adds row p to the rows from `from` up to `to`, multiplied by what each has at p.
@@ -89,7 +90,7 @@ impl Closure {
     }
 
     // One that has solved so many systems before.
-    pub fn counting_from(count: u32) -> Closure
+    pub(crate) fn counting_from(count: u32) -> Closure
         ensures { λ r. ⌜ r .count ≡ count ⌝ }
     {
         Closure { count }
@@ -99,10 +100,15 @@ impl Closure {
 pub impl Solver for Closure as ClosureSolver {
     ghost calls = { λ s. s .count };
 
-    fn solve<K: Semiring>(&mut self, n: usize, grid: &mut [K], column: &mut [K]) -> Result<(), Refusal> {
+    fn solve<K: Semiring>(
+        &mut self,
+        n: usize,
+        grid: &mut [K],
+        column: &mut [K],
+    ) -> Result<(), Refusal> {
         check(n, grid, column)?;
         close(n, grid, column);
-        self.count = self.count.saturating_add(1);
+        raise(&mut self.count);
         Ok(())
     }
 

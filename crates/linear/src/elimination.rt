@@ -12,6 +12,7 @@ use crate::grid::write;
 use crate::refusal::Refusal;
 use crate::solver::Solver;
 use crate::solver::check;
+use crate::solver::raise;
 use semiring::Semiring;
 
 // Solves row p for its own unknown: p goes out of it, and the rest is multiplied by the star.
@@ -103,7 +104,7 @@ impl Elimination {
     }
 
     // One that has solved so many systems before.
-    pub fn counting_from(count: u32) -> Elimination
+    pub(crate) fn counting_from(count: u32) -> Elimination
         ensures { λ r. ⌜ r .count ≡ count ⌝ }
     {
         Elimination { count }
@@ -113,10 +114,15 @@ impl Elimination {
 pub impl Solver for Elimination as EliminationSolver {
     ghost calls = { λ s. s .count };
 
-    fn solve<K: Semiring>(&mut self, n: usize, grid: &mut [K], column: &mut [K]) -> Result<(), Refusal> {
+    fn solve<K: Semiring>(
+        &mut self,
+        n: usize,
+        grid: &mut [K],
+        column: &mut [K],
+    ) -> Result<(), Refusal> {
         check(n, grid, column)?;
         eliminate(n, grid, column);
-        self.count = self.count.saturating_add(1);
+        raise(&mut self.count);
         Ok(())
     }
 

@@ -57,7 +57,7 @@ impl<'a, K: Semiring> Grid<'a, K> {
     }
 
     // The weight in row r, place q, for which it leaves zero.
-    pub fn take(&mut self, r: usize, q: usize) -> K
+    pub(crate) fn take(&mut self, r: usize, q: usize) -> K
         requires { ⌜ Square (now self .n) (now (now self .cells)) ⌝ ∗ ⌜ r < now self .n ⌝ ∗ ⌜ q < now self .n ⌝ }
         ensures was { λ w. ⌜ w ≡ cell algebra (now (self .entry) .n) (now (now (self .entry) .cells)) r q ⌝ }
         ensures cells { λ _. ⌜ now (now (self .exit) .cells) ≡ set (now (now (self .entry) .cells)) (r * now (self .entry) .n + q) (algebra .zero) ⌝ }
@@ -70,7 +70,7 @@ impl<'a, K: Semiring> Grid<'a, K> {
     }
 
     // Multiplies row r by a weight.
-    pub fn scale_row(&mut self, r: usize, by: K)
+    pub(crate) fn scale_row(&mut self, r: usize, by: K)
         requires { ⌜ Square (now self .n) (now (now self .cells)) ⌝ ∗ ⌜ r < now self .n ⌝ }
         ensures cells { λ _. ⌜ Rewritten algebra (now (self .entry) .n) r (now (self .entry) .n) (scaled algebra (now (self .entry) .n) (now (now (self .entry) .cells)) r by) (now (now (self .entry) .cells)) (now (now (self .exit) .cells)) ⌝ }
         ensures size { λ _. ⌜ now (self .exit) .n ≡ now (self .entry) .n ⌝ }
@@ -83,7 +83,7 @@ impl<'a, K: Semiring> Grid<'a, K> {
     }
 
     // Adds row p, multiplied by a weight, to row r.
-    pub fn add_row(&mut self, r: usize, by: K, p: usize)
+    pub(crate) fn add_row(&mut self, r: usize, by: K, p: usize)
         requires { ⌜ Square (now self .n) (now (now self .cells)) ⌝ ∗ ⌜ r < now self .n ⌝ ∗ ⌜ p < now self .n ⌝ }
         ensures cells { λ _. ⌜ Rewritten algebra (now (self .entry) .n) r (now (self .entry) .n) (added algebra (now (self .entry) .n) (now (now (self .entry) .cells)) r by p) (now (now (self .entry) .cells)) (now (now (self .exit) .cells)) ⌝ }
         ensures size { λ _. ⌜ now (self .exit) .n ≡ now (self .entry) .n ⌝ }
@@ -96,7 +96,7 @@ impl<'a, K: Semiring> Grid<'a, K> {
     }
 
     // What row r makes of the values in a column, plus the value of r itself.
-    pub fn value(&self, column: &[K], r: usize) -> K
+    pub(crate) fn value(&self, column: &[K], r: usize) -> K
         requires { ⌜ Square (now self .n) (now (now self .cells)) ⌝ ∗ ⌜ r < now self .n ⌝ ∗ ⌜ now self .n ≤ length (now column) ⌝ }
         ensures { λ w. ⌜ w ≡ right-side algebra (now (self .entry) .n) (cell algebra (now (self .entry) .n) (now (now (self .entry) .cells))) (entry-at algebra (now (column .entry))) (entry-at algebra (now (column .entry))) r ⌝ }
     {
@@ -108,7 +108,7 @@ impl<'a, K: Semiring> Grid<'a, K> {
     }
 
     // Puts that in the place of the value of r.
-    pub fn apply(&self, column: &mut [K], r: usize)
+    pub(crate) fn apply(&self, column: &mut [K], r: usize)
         requires { ⌜ Square (now self .n) (now (now self .cells)) ⌝ ∗ ⌜ r < now self .n ⌝ ∗ ⌜ now self .n ≤ length (now column) ⌝ }
         ensures { λ _. ⌜ now (column .exit) ≡ set (now (column .entry)) r (right-side algebra (now (self .entry) .n) (cell algebra (now (self .entry) .n) (now (now (self .entry) .cells))) (entry-at algebra (now (column .entry))) (entry-at algebra (now (column .entry))) r) ⌝ }
     {

@@ -5,6 +5,5 @@ pub mod elimination;
 pub mod grid;
 pub mod refusal;
 pub mod solver;
-
 #[cfg(test)]
 mod tests;

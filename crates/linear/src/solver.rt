@@ -11,7 +11,12 @@ pub trait Solver {
     // How many systems it has solved.
     ghost calls: { Self → ℕ };
 
-    fn solve<K: Semiring>(&mut self, n: usize, grid: &mut [K], column: &mut [K]) -> Result<(), Refusal>
+    fn solve<K: Semiring>(
+        &mut self,
+        n: usize,
+        grid: &mut [K],
+        column: &mut [K],
+    ) -> Result<(), Refusal>
         ensures { λ r. ⌜ Solved (K·Semiring .algebra) n (calls (now (self .entry))) (now (grid .entry)) (now (column .entry)) (calls (now (self .exit))) (now (grid .exit)) (now (column .exit)) r ⌝ };
 
     fn count(&self) -> u32
@@ -26,4 +31,11 @@ pub(crate) fn check<K: Semiring>(n: usize, grid: &[K], column: &[K]) -> Result<(
         return Err(Refusal::System);
     }
     Ok(())
+}
+
+// Counts one system more, up to the largest count.
+pub(crate) fn raise(count: &mut u32)
+    ensures { λ _. ⌜ now (count .exit) ≡ one-more (now (count .entry)) ⌝ }
+{
+    *count = count.saturating_add(1);
 }

@@ -21,23 +21,23 @@ enum Bit {
 
 impl Semiring for Bit as BitSemiring {
     ghost algebra = { record {
-        zero = Off;
-        one = On;
-        plus = elim [ Off ↦ λ b. b | On ↦ λ b. On ];
-        times = elim [ Off ↦ λ b. Off | On ↦ λ b. b ];
-        star = λ a. On;
-        laws = record {
-            plus-assoc = elim [ Off ↦ λ b c. refl | On ↦ λ b c. refl ];
-            plus-comm = elim [ Off ↦ elim [ Off ↦ refl | On ↦ refl ] | On ↦ elim [ Off ↦ refl | On ↦ refl ] ];
-            plus-idem = elim [ Off ↦ refl | On ↦ refl ];
-            plus-zero = elim [ Off ↦ refl | On ↦ refl ];
-            times-assoc = elim [ Off ↦ λ b c. refl | On ↦ λ b c. refl ];
-            times-comm = elim [ Off ↦ elim [ Off ↦ refl | On ↦ refl ] | On ↦ elim [ Off ↦ refl | On ↦ refl ] ];
-            times-one = elim [ Off ↦ refl | On ↦ refl ];
-            times-zero = elim [ Off ↦ refl | On ↦ refl ];
-            times-plus = elim [ Off ↦ λ b c. refl | On ↦ λ b c. refl ];
-            star-finite = λ a. (0, refl, refl);
-        };
+      zero = Off;
+      one = On;
+      plus = elim [ Off ↦ λ b. b | On ↦ λ b. On ];
+      times = elim [ Off ↦ λ b. Off | On ↦ λ b. b ];
+      star = λ a. On;
+      laws = record {
+        plus-assoc = elim [ Off ↦ λ b c. refl | On ↦ λ b c. refl ];
+        plus-comm = elim [ Off ↦ elim [ Off ↦ refl | On ↦ refl ] | On ↦ elim [ Off ↦ refl | On ↦ refl ] ];
+        plus-idem = elim [ Off ↦ refl | On ↦ refl ];
+        plus-zero = elim [ Off ↦ refl | On ↦ refl ];
+        times-assoc = elim [ Off ↦ λ b c. refl | On ↦ λ b c. refl ];
+        times-comm = elim [ Off ↦ elim [ Off ↦ refl | On ↦ refl ] | On ↦ elim [ Off ↦ refl | On ↦ refl ] ];
+        times-one = elim [ Off ↦ refl | On ↦ refl ];
+        times-zero = elim [ Off ↦ refl | On ↦ refl ];
+        times-plus = elim [ Off ↦ λ b c. refl | On ↦ λ b c. refl ];
+        star-finite = λ a. (0, refl, refl);
+      };
     } };
 
     fn zero() -> Bit {

@@ -2,7 +2,7 @@ use mathlib.Core.Path.{refl, _∙_}
 use native.Mathlib.Omega.{arith}
 use denote.Ref.{now}
 use Rattle.linear.specs.Rows.{scaled}
-use Rattle.linear.proofs.Cells.{rewritten-none, scaled-turn, rewritten-all}
+use Rattle.linear.proofs.Cells.{within, rewritten-none, scaled-turn, rewritten-all}
 use Rattle.linear.proofs.grid.Grid.scale_row.Needs as need
 
 pub loop-q-holds : need.loop-q-holds
@@ -27,3 +27,9 @@ returns g c =
       size = c .loop-q .inv .0;
       same = c .loop-q .inv .1;
     }
+
+pub at-requires : need.at-requires
+at-requires g c κs = within (c .args .self .now .n) (c .loop-q .inv .0) (c .loop-q .inv .2) (c .pre .1) (c .loop-q-test .taken)
+
+pub put-requires : need.put-requires
+put-requires g c κs = within (c .args .self .now .n) (c .loop-q .inv .0) (c .loop-q .inv .2) (c .pre .1) (c .loop-q-test .taken)

@@ -11,3 +11,9 @@ returns g c = record {
   size = c .put .ensures .size;
   same = c .put .ensures .same;
 }
+
+pub at-weight-requires : need.at-weight-requires
+at-weight-requires g c κs = c .pre
+
+pub put-requires : need.put-requires
+put-requires g c κs = c .pre
