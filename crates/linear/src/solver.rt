@@ -6,7 +6,8 @@ use crate::refusal::Refusal;
 use semiring::Semiring;
 
 // A solver is handed the number of unknowns n, the grid with A and the column with b, and leaves in
-// the column's first n places the least x with x = A x + b.
+// the column's first n places the least x with x = A x + b. The grid's first n × n places are then
+// free, and all other places of both slices are as they were.
 pub trait Solver {
     // How many systems it has solved.
     ghost calls: { Self → ℕ };
