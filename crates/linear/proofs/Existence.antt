@@ -11,13 +11,20 @@ use Rattle.semiring.proofs.Order
 use Rattle.semiring.proofs.Powers
 use Rattle.semiring.proofs.Star
 use Rattle.semiring.proofs.Sums
-use Rattle.linear.specs.System.{right-side, Least}
+use Rattle.linear.specs.System.{right-side, Least, One-solution}
 
 module _ {K : Type 0} (k : Algebra K) where
   -- Two least solutions of one system are equal place by place.
   pub least-unique : (n : ℕ) (a : ℕ → ℕ → K) (b x y : ℕ → K) → Least k n a b x → Least k n a b y → (r : ℕ) → r < n → x r ≡ y r
   least-unique n a b x y p q r l =
       Order.under-antisym (dioid k) (p .least y (λ i m. Order.equal-under (dioid k) (sym (q .solves i m))) r l) (q .least x (λ i m. Order.equal-under (dioid k) (sym (p .solves i m))) r l)
+
+  -- Only the places below n count.
+  pub least-same : (n : ℕ) (a : ℕ → ℕ → K) (b x y : ℕ → K) → ((r : ℕ) → r < n → y r ≡ x r) → Least k n a b x → Least k n a b y
+  least-same n a b x y same p = record {
+    solves = λ r l. same r l ∙ p .solves r l ∙ ap (λ s. k .plus s (b r)) (Sums.sum-to-ext k _ _ n (λ q m. ap (k .times (a r q)) (sym (same q m))));
+    least = λ z h r l. rw (same r l) (p .least z h r l);
+  }
 
   -- The first term of a sum.
   pub sum-to-front : (f : ℕ → K) (n : ℕ) → sum-to k f (suc n) ≡ k .plus (f zero) (sum-to k (λ i. f (suc i)) n)
@@ -105,6 +112,9 @@ module _ {K : Type 0} (k : Algebra K) where
   unfolding solution
   solution-least zero a b = record { solves = λ r l. absurd (omega arith); least = λ y h r l. absurd (omega arith) }
   solution-least (suc n) a b = extended-least n a b (solution n (rest-grid a) (rest-column a b)) (solution-least n (rest-grid a) (rest-column a b))
+
+  pub one-solution : One-solution k
+  one-solution = record { some = λ n a b. (solution n a b, solution-least n a b); unique = least-unique }
 
   -- What zero, sums and the products with a keep, the star of a keeps too.
   pub star-in : (F : K → Type 0) → ((v w : K) → F v → F w → F (k .plus v w)) → (a : K) → ((w : K) → F w → F (k .times a w)) → (w : K) → F w → F (k .times (k .star a) w)

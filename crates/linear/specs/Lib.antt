@@ -1,1 +1,5 @@
 pub mod System
+pub mod Solved
+pub mod Rows
+pub mod Removal
+pub mod Kleene
