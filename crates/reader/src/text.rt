@@ -3,8 +3,8 @@ ghost use mathlib.Core.Path.{_≡_};
 ghost use Prim.Native.Nat.{_+_, _≤_};
 ghost use lib.ListN.{length};
 ghost use denote.Ref.{now};
-use script::fault::Fault;
 use crate::names::Names;
+use script::fault::Fault;
 
 #[derive(Drop)]
 pub struct TextSource<'a> {

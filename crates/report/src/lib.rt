@@ -5,11 +5,11 @@ ghost use lib.ListN.{length};
 ghost use Rattle.std.specs.Vec.{made};
 ghost use Rattle.reader.specs.Text.{ended};
 ghost use Rattle.report.specs.Reported.{Counted, Reported};
+use reader::LinesOfText;
+use reader::TextSource;
 use script::fault::Fault;
 use script::fault::FaultDisplay;
 use script::source::Source;
-use reader::LinesOfText;
-use reader::TextSource;
 use std::alloc::AllocError;
 use std::alloc::Global;
 

@@ -173,9 +173,21 @@ const CASES: [Case; 34] = [
 fn whole_files(rt: LibcRuntime) -> Result<(), Fail> {
     let heap = rt.alloc();
     expect(heap, b"", "refused 21 reader line 1 byte 0\n")?;
-    expect(heap, b"routine seconds light turn calls", "refused 21 reader line 1 byte 0\n")?;
-    expect(heap, b"routine seconds light turn calls \n", "refused 21 reader line 1 byte 0\n")?;
-    expect(heap, b"routine seconds light turn calls\r\n", "refused 21 reader line 1 byte 0\n")
+    expect(
+        heap,
+        b"routine seconds light turn calls",
+        "refused 21 reader line 1 byte 0\n",
+    )?;
+    expect(
+        heap,
+        b"routine seconds light turn calls \n",
+        "refused 21 reader line 1 byte 0\n",
+    )?;
+    expect(
+        heap,
+        b"routine seconds light turn calls\r\n",
+        "refused 21 reader line 1 byte 0\n",
+    )
 }
 
 #[test]

@@ -13,9 +13,6 @@ ghost use Rattle.reader.specs.Text.{offset};
 use super::Calls;
 use super::Place;
 use super::Row;
-use script::branch::Branch;
-use script::fault::Fault;
-use script::fault::Layer;
 use crate::names::Names;
 use crate::refusal::Refusal;
 use crate::words::PLUS;
@@ -24,6 +21,9 @@ use crate::words::calls_ok;
 use crate::words::cut;
 use crate::words::name_ok;
 use crate::words::number;
+use script::branch::Branch;
+use script::fault::Fault;
+use script::fault::Layer;
 
 impl<'a> Row<'a> {
     // The words of a line, where there are five.
@@ -153,7 +153,11 @@ fn read_calls(names: &mut Names, word: &[u8], place: Place, behind: usize) -> Re
 }
 
 // The branch of a line, with the names met by then.
-pub(crate) fn read_line(mut names: Names, line: &[u8], place: Place) -> Result<(Branch, Names), Fault>
+pub(crate) fn read_line(
+    mut names: Names,
+    line: &[u8],
+    place: Place,
+) -> Result<(Branch, Names), Fault>
     requires { ⌜ place .byte + length (now line) < 2 ^ 64 ⌝ }
     ensures { λ r. ⌜ Reads (known names) (pieces 32 (now (line .entry))) place r ⌝ }
 {

@@ -12,16 +12,16 @@ ghost use Rattle.reader.specs.Text.{failed, reader-fault, text-feed, text-lege
 ghost use Rattle.reader.specs.Unread.{text-left, legend-left, At-end};
 ghost use Rattle.reader.specs.Writing.{Read-back};
 use super::TextSource;
-use script::branch::Placed;
-use script::fault::Fault;
-use script::fault::Layer;
 use crate::line::Place;
 use crate::line::read_line;
 use crate::names::Names;
 use crate::refusal::Refusal;
-use script::source::Source;
 use crate::words::LINE_END;
 use crate::words::cut;
+use script::branch::Placed;
+use script::fault::Fault;
+use script::fault::Layer;
+use script::source::Source;
 
 // What a file may have at most.
 const MOST_BYTES: usize = 16384;
