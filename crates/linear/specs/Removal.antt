@@ -1,4 +1,5 @@
--- How the removal of unknowns changes a system, and how far it has come.
+-- Elimination: how the removal of unknowns changes a system, and how far it has come. A row names
+-- an unknown where its cell there is not zero.
 use mathlib.Core.Path.{_≡_}
 use mathlib.Core.List.{List}
 use Prim.Native.Nat.{ℕ, _<_, _≤_}
