@@ -32,21 +32,21 @@ pub(crate) fn write<K: Semiring>(cells: &mut [K], i: usize, weight: K)
 
 // A grid of n rows with n places each, over the first n × n places of a lent slice.
 #[derive(Drop)]
-pub struct Grid<'a, K> {
+pub(crate) struct Grid<'a, K> {
     pub cells: &'a mut [K],
     pub n: usize,
 }
 
 impl<'a, K: Semiring> Grid<'a, K> {
     // The weight in row r, place q.
-    pub fn at(&self, r: usize, q: usize) -> K
+    pub(crate) fn at(&self, r: usize, q: usize) -> K
         requires { ⌜ Square (now self .n) (now (now self .cells)) ⌝ ∗ ⌜ r < now self .n ⌝ ∗ ⌜ q < now self .n ⌝ }
         ensures { λ w. ⌜ w ≡ cell algebra (now (self .entry) .n) (now (now (self .entry) .cells)) r q ⌝ }
     {
         read(self.cells, place(self.n, r, q))
     }
 
-    pub fn put(&mut self, r: usize, q: usize, weight: K)
+    pub(crate) fn put(&mut self, r: usize, q: usize, weight: K)
         requires { ⌜ Square (now self .n) (now (now self .cells)) ⌝ ∗ ⌜ r < now self .n ⌝ ∗ ⌜ q < now self .n ⌝ }
         ensures cells { λ _. ⌜ now (now (self .exit) .cells) ≡ set (now (now (self .entry) .cells)) (r * now (self .entry) .n + q) weight ⌝ }
         ensures size { λ _. ⌜ now (self .exit) .n ≡ now (self .entry) .n ⌝ }

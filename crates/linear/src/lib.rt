@@ -2,7 +2,7 @@
 pub mod agreement;
 pub mod closure;
 pub mod elimination;
-pub mod grid;
+mod grid;
 pub mod refusal;
 pub mod solver;
 #[cfg(test)]
