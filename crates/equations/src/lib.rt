@@ -4,7 +4,7 @@
 ghost use mathlib.Core.Path.{_≡_};
 ghost use mathlib.Core.Bool.{true, false};
 ghost use Prim.Native.Nat.{_*_, _≤_};
-ghost use lib.ListN.{length, take};
+ghost use lib.ListN.{length};
 ghost use Rattle.linear.specs.System.{entry-at};
 ghost use Rattle.equations.specs.Held.{rules-of, written, rows};
 ghost use Rattle.equations.specs.Equations.{called, others, image, slope, Solves};
@@ -54,18 +54,6 @@ fn others<K: Semiring>(values: &[K], q: usize, calls: &[u8]) -> K
     }
 }
 
-// The calls of a branch that are meant.
-fn calls_of(branch: &Branch) -> &[u8]
-    ensures { λ r. ⌜ now r ≡ take (now (branch .entry) .count) (now (branch .entry) .calls) ⌝ }
-{
-    let count = branch.count as usize;
-    if count < 4 {
-        &branch.calls[..count]
-    } else {
-        &branch.calls
-    }
-}
-
 // f at routine r.
 pub fn image_at<K: Semiring>(
     held: usize,
@@ -80,7 +68,7 @@ pub fn image_at<K: Semiring>(
     let mut all = K::zero();
     for i in 0..held {
         if branches[i].routine as usize == r {
-            all = all.sum(weights[i].product(called(values, calls_of(&branches[i]))));
+            all = all.sum(weights[i].product(called(values, branches[i].counted_calls())));
         }
     }
     all
@@ -101,7 +89,7 @@ pub fn slope_at<K: Semiring>(
     let mut slope = K::zero();
     for i in 0..held {
         if branches[i].routine as usize == r {
-            slope = slope.sum(weights[i].product(others(values, q, calls_of(&branches[i]))));
+            slope = slope.sum(weights[i].product(others(values, q, branches[i].counted_calls())));
         }
     }
     slope

@@ -11,6 +11,6 @@ loop-i-again g c =
     let k = g .K·Semiring .algebra in
     let part = others k (entry-at k (c .args .values .now)) (c .args .q) in
     elim (c .if-branches-i .came) [
-      | then-branches-i w ↦ w .slope-is ∙ held-taken k part (c .args .r) (c .args .branches .now) (c .args .weights .now) (c .loop-i .i) (c .loop-i .slope) (w .index-weights-i .result) (w .calls-of .result .now) (w .others .result) (w .product .result) (w .sum-slope .result) (c .loop-i .inv) (w .if-branches-i .taken) (omega arith) (w .index-weights-i .is) (w .calls-of .ensures) (w .others .ensures) (w .product .ensures) (w .sum-slope .ensures)
+      | then-branches-i w ↦ w .slope-is ∙ held-taken k part (c .args .r) (c .args .branches .now) (c .args .weights .now) (c .loop-i .i) (c .loop-i .slope) (w .index-weights-i .result) (w .counted-calls .result .now) (w .others .result) (w .product .result) (w .sum-slope .result) (c .loop-i .inv) (w .if-branches-i .taken) (omega arith) (w .index-weights-i .is) (w .counted-calls .ensures) (w .others .ensures) (w .product .ensures) (w .sum-slope .ensures)
       | else-branches-i w ↦ w .slope-is ∙ held-passed k part (c .args .r) (c .args .branches .now) (c .args .weights .now) (c .loop-i .i) (c .loop-i .slope) (c .loop-i .inv) (w .if-branches-i .left)
     ]

@@ -1,0 +1,3 @@
+pub mod Above
+pub mod Feeding
+pub mod Shifting
