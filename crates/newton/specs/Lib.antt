@@ -1,3 +1,4 @@
 pub mod Questions
 pub mod Drafting
 pub mod Loading
+pub mod Working

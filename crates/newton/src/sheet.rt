@@ -35,3 +35,4 @@ pub struct Settled {
 }
 
 mod drafting;
+mod working;

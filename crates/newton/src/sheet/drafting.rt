@@ -34,7 +34,7 @@ fn all_below(numbers: &[u8], top: u8) -> bool
 }
 
 // Whether a branch names only routines below a bound.
-fn names_below(branch: &Branch, top: u8) -> bool
+pub(super) fn names_below(branch: &Branch, top: u8) -> bool
     ensures yes { λ r. ⌜ (r ≡ true → All (λ m. m < top) (named (now (branch .entry)))) ⌝ }
     ensures no { λ r. ⌜ (r ≡ false → All (λ m. m < top) (named (now (branch .entry))) → ⊥) ⌝ }
 {

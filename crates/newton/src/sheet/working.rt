@@ -1,0 +1,179 @@
+// The calls of a sheet at work.
+ghost use mathlib.Core.Path.{_≡_};
+ghost use mathlib.Core.Bool.{true, false};
+ghost use Prim.Native.Nat.{ℕ, _*_, _≤_, _<_};
+ghost use lib.ListN.{length, getD};
+ghost use Rattle.equations.specs.Held.{no-branch, written};
+ghost use Rattle.newton.specs.Questions.{Asked};
+ghost use Rattle.newton.specs.Working.{All-sound, slice-questions, Started, Climbed, Closed, Figured};
+ghost use Rattle.linear.specs.System.{entry-at};
+use super::Draft;
+use super::Settled;
+use super::Work;
+use super::drafting::names_below;
+use crate::refusal::Refusal;
+use equations::image;
+use equations::solves;
+use script::branch::Branch;
+use semiring::Semiring;
+
+// Whether every held branch has at most 4 calls, and names routines below n only.
+fn all_sound(n: u8, held: usize, branches: &[Branch]) -> bool
+    requires { ⌜ held ≤ length (now branches) ⌝ }
+    ensures yes { λ r. ⌜ (r ≡ true → All-sound n held (now (branches .entry))) ⌝ }
+    ensures no { λ r. ⌜ (r ≡ false → All-sound n held (now (branches .entry)) → ⊥) ⌝ }
+{
+    for i in 0..held {
+        if branches[i].count > 4 || !names_below(&branches[i], n) {
+            return false;
+        }
+    }
+    true
+}
+
+// Fills the first places with zero.
+fn clear<K: Semiring>(places: usize, items: &mut [K])
+    requires { ⌜ places ≤ length (now items) ⌝ }
+    ensures { λ _. ⌜ now (items .exit) ≡ written (λ r. algebra .zero) places (now (items .entry)) ⌝ }
+{
+    for i in 0..places {
+        items[i] = K::zero();
+    }
+}
+
+// The questions on the slices, in order.
+fn ready<K: Semiring>(
+    n: usize,
+    held: usize,
+    branches: &[Branch],
+    weights: &[K],
+    values: &[K],
+    column: &[K],
+    grid: &[K],
+) -> Result<(), Refusal>
+    requires { ⌜ n ≤ 32 ⌝ }
+    ensures { λ r. ⌜ Asked (slice-questions algebra n held (record { branches = now (branches .entry); weights = now (weights .entry); values = now (values .entry); column = now (column .entry); grid = now (grid .entry) })) r ⌝ }
+{
+    if branches.len() < held || weights.len() < held {
+        return Err(Refusal::Slices);
+    }
+    if values.len() < n || column.len() < n || grid.len() < n * n {
+        return Err(Refusal::Slices);
+    }
+    if !all_sound(n as u8, held, branches) {
+        return Err(Refusal::Held);
+    }
+    Ok(())
+}
+
+impl Draft {
+    // Takes a draft to work: the values are f of all zeros.
+    pub fn start<K: Semiring>(
+        self,
+        branches: &[Branch],
+        weights: &[K],
+        values: &mut [K],
+        column: &mut [K],
+        grid: &mut [K],
+    ) -> Result<Work, (Draft, Refusal)>
+        ensures { λ r. ⌜ Started algebra self (record { branches = now (branches .entry); weights = now (weights .entry); values = now (values .entry); column = now (column .entry); grid = now (grid .entry) }) (record { branches = now (branches .entry); weights = now (weights .entry); values = now (values .exit); column = now (column .exit); grid = now (grid .exit) }) r ⌝ }
+    {
+        let n = self.n;
+        let held = self.held;
+        if let Err(refusal) = ready(n, held, branches, weights, values, column, grid) {
+            return Err((self, refusal));
+        }
+        image(n, held, branches, weights, &[], values);
+        clear(n, column);
+        clear(n * n, grid);
+        Ok(Work { n, held, rounds: 0 })
+    }
+}
+
+// Copies the first places.
+fn copy<K: Semiring>(places: usize, from: &[K], to: &mut [K])
+    requires { ⌜ places ≤ length (now from) ⌝ ∗ ⌜ places ≤ length (now to) ⌝ }
+    ensures { λ _. ⌜ now (to .exit) ≡ written (entry-at algebra (now (from .entry))) places (now (to .entry)) ⌝ }
+{
+    for i in 0..places {
+        to[i] = from[i];
+    }
+}
+
+impl Work {
+    // Replaces the values by f of the values.
+    pub fn climb<K: Semiring>(
+        &self,
+        branches: &[Branch],
+        weights: &[K],
+        values: &mut [K],
+        column: &mut [K],
+        grid: &mut [K],
+    ) -> Result<(), Refusal>
+        ensures { λ r. ⌜ Climbed algebra (now (self .entry)) (record { branches = now (branches .entry); weights = now (weights .entry); values = now (values .entry); column = now (column .entry); grid = now (grid .entry) }) (record { branches = now (branches .entry); weights = now (weights .entry); values = now (values .exit); column = now (column .exit); grid = now (grid .exit) }) r ⌝ }
+    {
+        let n = self.n;
+        let held = self.held;
+        ready(n, held, branches, weights, values, column, grid)?;
+        if solves(n, held, branches, weights, values) {
+            return Err(Refusal::Solved);
+        }
+        image(n, held, branches, weights, values, column);
+        copy(n, column, values);
+        clear(n, column);
+        clear(n * n, grid);
+        Ok(())
+    }
+
+    // Takes a sheet whose values solve the equations to settled.
+    pub fn close<K: Semiring>(
+        self,
+        branches: &[Branch],
+        weights: &[K],
+        values: &[K],
+        column: &[K],
+        grid: &[K],
+    ) -> Result<Settled, (Work, Refusal)>
+        ensures { λ r. ⌜ Closed algebra self (record { branches = now (branches .entry); weights = now (weights .entry); values = now (values .entry); column = now (column .entry); grid = now (grid .entry) }) r ⌝ }
+    {
+        let n = self.n;
+        let held = self.held;
+        let rounds = self.rounds;
+        if let Err(refusal) = ready(n, held, branches, weights, values, column, grid) {
+            return Err((self, refusal));
+        }
+        if !solves(n, held, branches, weights, values) {
+            return Err((self, Refusal::Unsolved));
+        }
+        Ok(Settled { n, held, rounds })
+    }
+
+    // How many rounds have been made.
+    pub fn rounds(&self) -> usize
+        ensures { λ r. ⌜ r ≡ now (self .entry) .rounds ⌝ }
+    {
+        self.rounds
+    }
+}
+
+impl Settled {
+    // The figure of a routine.
+    pub fn figure<K: Semiring>(&self, values: &[K], routine: usize) -> Result<K, Refusal>
+        ensures { λ r. ⌜ Figured algebra (now (self .entry)) (now (values .entry)) routine r ⌝ }
+    {
+        if values.len() < self.n {
+            return Err(Refusal::Slices);
+        }
+        if routine >= self.n {
+            return Err(Refusal::Routine);
+        }
+        Ok(values[routine])
+    }
+
+    // How many rounds were made.
+    pub fn rounds(&self) -> usize
+        ensures { λ r. ⌜ r ≡ now (self .entry) .rounds ⌝ }
+    {
+        self.rounds
+    }
+}
