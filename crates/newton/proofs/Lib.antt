@@ -2,4 +2,5 @@ pub mod Above
 pub mod Asking
 pub mod Feeding
 pub mod Shifting
+pub mod Stepping
 pub mod Written

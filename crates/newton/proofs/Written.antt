@@ -3,7 +3,7 @@ use mathlib.Core.Path.{_≡_, refl, ap, _∙_}
 use mathlib.Core.List.{List, [], _∷_, _++_}
 use Prim.Native.Nat.{ℕ, zero, suc, _<_, _≤_}
 use native.Mathlib.Omega.{arith}
-use lib.ListN.{length, drop}
+use lib.ListN.{length, drop, length-append, length-drop}
 use Rattle.std.proofs.shelf.Lists.{length-push, drop-at}
 use Rattle.semiring.specs.Algebra.{Algebra}
 use Rattle.linear.specs.System.{entry-at}
@@ -28,3 +28,10 @@ written-over f g n xs ys is = ap (written f n) is ∙ ap (λ l. table f n ++ l) 
 -- what is copied from a column that was written
 pub copied : {K : Type 0} (k : Algebra K) (f : ℕ → K) (n : ℕ) (xs ys vs : List K) → ys ≡ written f n xs → written (entry-at k ys) n vs ≡ written f n vs
 copied k f n xs ys vs is = written-same (entry-at k ys) f n vs (entry-written k f n xs ys is)
+
+-- what stands behind the places that were written
+pub written-tail : {X : Type 0} (f : ℕ → X) (n : ℕ) (xs ys : List X) → ys ≡ written f n xs → drop n ys ≡ drop n xs
+written-tail f n xs ys is = ap (drop n) is ∙ drop-at (table f n) (drop n xs) n (length-table f n)
+
+pub written-size : {X : Type 0} (f : ℕ → X) (n : ℕ) (xs ys : List X) → n ≤ length xs → ys ≡ written f n xs → length ys ≡ length xs
+written-size f n xs ys room is = ap length is ∙ length-append (table f n) (drop n xs) ∙ omega (arith, length-table f n, length-drop n xs)

@@ -3,18 +3,19 @@
 use mathlib.Core.Path.{_≡_}
 use mathlib.Core.List.{List, [], _∷_, _++_}
 use Prim.Native.Nat.{ℕ, _+_, _*_, _<_, _≤_}
-use lib.ListN.{length, getD}
+use lib.ListN.{length, getD, drop}
 use Rattle.std.specs.declared.result.Result.{Result}
 use Rattle.std.specs.declared.result.Result.the-variants.{Ok, Err}
 use Rattle.std.specs.shelf.Lists.{All}
 use Rattle.semiring.specs.Algebra.{Algebra}
 use Rattle.script.specs.declared.branch.Branch.{Branch}
-use Rattle.linear.specs.System.{entry-at}
-use Rattle.equations.specs.Equations.{image, Solves}
+use Rattle.linear.specs.System.{entry-at, Least}
+use Rattle.linear.specs.Solved.{one-more}
+use Rattle.equations.specs.Equations.{image, slope, Solves}
 use Rattle.equations.specs.Held.{no-branch, rules-of, written}
 use Rattle.equations.specs.Rule.{Rule}
 use Rattle.newton.specs.declared.refusal.Refusal.{Refusal}
-use Rattle.newton.specs.declared.refusal.Refusal.the-variants.{Slices, Held, Solved, Unsolved, Routine}
+use Rattle.newton.specs.declared.refusal.Refusal.the-variants.{Slices, Held, Solved, Rounds, Unsolved, Routine}
 use Rattle.newton.specs.declared.sheet.Draft.{Draft}
 use Rattle.newton.specs.declared.sheet.Work.{Work}
 use Rattle.newton.specs.declared.sheet.Settled.{Settled}
@@ -117,3 +118,27 @@ module _ {K : Type 0} (k : Algebra K) where
   abbrev pub Figured : Settled → List K → ℕ → Result K Refusal → Type 0
   Figured f values routine (Ok figure) = Passed (figure-questions f values routine) × (figure ≡ entry-at k values routine)
   Figured f values routine (Err why) = Refused (figure-questions f values routine) why
+
+  -- One Newton round from the values before: the values become the least solution of the linear
+  -- system with the slopes there for its grid and f there for its column.
+  pub record Newton-step (n held : ℕ) (s s′ : Slices-of K) : Type 0 where
+    pub least : Least k n (slope k (held-rules held s) (values-of s)) (image k (held-rules held s) (values-of s)) (values-of s′)
+    pub size : length (s′ .values) ≡ length (s .values)
+    pub tail : drop n (s′ .values) ≡ drop n (s .values)
+    pub cleared : Cleared n s s′
+
+  -- Round: its questions, and what it does, with one call of the solver.
+  abbrev pub round-questions : Work → Slices-of K → List Question
+  round-questions w s = slice-questions (w .n) (w .held) s ++ (Solved, (Solved-by (w .n) (w .held) s → ⊥)) ∷ (Rounds, w .rounds < w .n) ∷ []
+
+  pub record Rounds-once (w : Work) (s : Slices-of K) (calls : ℕ) (w′ : Work) (s′ : Slices-of K) (calls′ : ℕ) : Type 0 where
+    pub asked : Passed (round-questions w s)
+    pub n : w′ .n ≡ w .n
+    pub held : w′ .held ≡ w .held
+    pub rounds : w′ .rounds ≡ w .rounds + 1
+    pub step : Newton-step (w .n) (w .held) s s′
+    pub calls-are : calls′ ≡ one-more calls
+
+  abbrev pub Rounded : Work → Slices-of K → ℕ → Work → Slices-of K → ℕ → Result (Unit {0}) Refusal → Type 0
+  Rounded w s calls w′ s′ calls′ (Ok done) = Rounds-once w s calls w′ s′ calls′
+  Rounded w s calls w′ s′ calls′ (Err why) = Refused (round-questions w s) why × Same-work w w′ × (s′ ≡ s) × (calls′ ≡ calls)

@@ -5,7 +5,8 @@ ghost use Prim.Native.Nat.{ℕ, _*_, _≤_, _<_};
 ghost use lib.ListN.{length, getD};
 ghost use Rattle.equations.specs.Held.{no-branch, written};
 ghost use Rattle.newton.specs.Questions.{Asked};
-ghost use Rattle.newton.specs.Working.{All-sound, slice-questions, Started, Climbed, Closed, Figured};
+ghost use Rattle.newton.specs.Working.{All-sound, slice-questions, Started, Climbed, Closed, Figured, Newton-step, Rounded};
+ghost use Rattle.linear.specs.Solved.{Fits, Accepted, one-more};
 ghost use Rattle.linear.specs.System.{entry-at};
 use super::Draft;
 use super::Settled;
@@ -13,7 +14,9 @@ use super::Work;
 use super::drafting::names_below;
 use crate::refusal::Refusal;
 use equations::image;
+use equations::slopes;
 use equations::solves;
+use linear::solver::Solver;
 use script::branch::Branch;
 use semiring::Semiring;
 
@@ -100,7 +103,69 @@ fn copy<K: Semiring>(places: usize, from: &[K], to: &mut [K])
     }
 }
 
+// Has a solver solve a system that it takes.
+fn solve<K: Semiring, S: Solver>(solver: &mut S, n: usize, grid: &mut [K], column: &mut [K])
+    requires { ⌜ Fits n (now grid) (now column) ⌝ }
+    ensures { λ _. ⌜ Accepted (K·Semiring .algebra) n (S·Solver .calls (now (solver .entry))) (now (grid .entry)) (now (column .entry)) (S·Solver .calls (now (solver .exit))) (now (grid .exit)) (now (column .exit)) ⌝ }
+{
+    match solver.solve(n, grid, column) {
+        Ok(()) => {}
+        Err(_) => unreachable(),
+    }
+}
+
+// One Newton round.
+fn step<K: Semiring, S: Solver>(
+    solver: &mut S,
+    n: usize,
+    held: usize,
+    branches: &[Branch],
+    weights: &[K],
+    values: &mut [K],
+    column: &mut [K],
+    grid: &mut [K],
+)
+    requires few { ⌜ n ≤ 32 ⌝ }
+    requires script { ⌜ held ≤ length (now branches) ⌝ ∗ ⌜ held ≤ length (now weights) ⌝ }
+    requires room { ⌜ n ≤ length (now values) ⌝ ∗ ⌜ n ≤ length (now column) ⌝ ∗ ⌜ n * n ≤ length (now grid) ⌝ }
+    ensures step { λ _. ⌜ Newton-step (K·Semiring .algebra) n held (record { branches = now (branches .entry); weights = now (weights .entry); values = now (values .entry); column = now (column .entry); grid = now (grid .entry) }) (record { branches = now (branches .entry); weights = now (weights .entry); values = now (values .exit); column = now (column .exit); grid = now (grid .exit) }) ⌝ }
+    ensures calls { λ _. ⌜ S·Solver .calls (now (solver .exit)) ≡ one-more (S·Solver .calls (now (solver .entry))) ⌝ }
+{
+    image(n, held, branches, weights, values, column);
+    slopes(n, held, branches, weights, values, grid);
+    solve(solver, n, grid, column);
+    copy(n, column, values);
+    clear(n, column);
+    clear(n * n, grid);
+}
+
 impl Work {
+    // Replaces the values by the least solution of the linear system at them.
+    pub fn round<K: Semiring, S: Solver>(
+        &mut self,
+        solver: &mut S,
+        branches: &[Branch],
+        weights: &[K],
+        values: &mut [K],
+        column: &mut [K],
+        grid: &mut [K],
+    ) -> Result<(), Refusal>
+        ensures { λ r. ⌜ Rounded (K·Semiring .algebra) (now (self .entry)) (record { branches = now (branches .entry); weights = now (weights .entry); values = now (values .entry); column = now (column .entry); grid = now (grid .entry) }) (S·Solver .calls (now (solver .entry))) (now (self .exit)) (record { branches = now (branches .entry); weights = now (weights .entry); values = now (values .exit); column = now (column .exit); grid = now (grid .exit) }) (S·Solver .calls (now (solver .exit))) r ⌝ }
+    {
+        let n = self.n;
+        let held = self.held;
+        ready(n, held, branches, weights, values, column, grid)?;
+        if solves(n, held, branches, weights, values) {
+            return Err(Refusal::Solved);
+        }
+        if self.rounds >= n {
+            return Err(Refusal::Rounds);
+        }
+        step(solver, n, held, branches, weights, values, column, grid);
+        self.rounds += 1;
+        Ok(())
+    }
+
     // Replaces the values by f of the values.
     pub fn climb<K: Semiring>(
         &self,
