@@ -32,7 +32,7 @@ module _ {K : Type 0} (k : Algebra K) (n held : ℕ) (s : Slices-of K) (room : n
       Newton-step k n held s (record { branches = s .branches; weights = s .weights; values = values; column = cleared-column; grid = cleared-grid })
   stepped column grid column′ grid′ values cleared-column cleared-grid calls calls′ filled sloped solved taken none none′ = record {
     least = Existence.least-same k n a f (entry-at k column′) (entry-at k values) (entry-written k (entry-at k column′) n (s .values) values taken)
-      (Systems.least-same k n (cell k n grid) a (entry-at k column) f (cell-written k a n (s .grid) grid sloped) (entry-written k f n (s .column) column filled) (entry-at k column′) (solved .leaves .least));
+        (Systems.least-same k n (cell k n grid) a (entry-at k column) f (cell-written k a n (s .grid) grid sloped) (entry-written k f n (s .column) column filled) (entry-at k column′) (solved .leaves .least));
     size = written-size (entry-at k column′) n (s .values) values room taken;
     tail = written-tail (entry-at k column′) n (s .values) values taken;
     cleared = record {

@@ -38,7 +38,6 @@ enter-questions d b branches weights =
     ∷ []
 
 module _ {K : Type 0} (weight : Branch → K) where
-
   -- Enter puts the branch and its weight behind the held ones.
   pub record Enters (d : Draft) (b : Branch) (bs : List Branch) (ws : List K) (d′ : Draft) (bs′ : List Branch) (ws′ : List K) : Type 0 where
     pub asked : Passed (enter-questions d b bs ws)

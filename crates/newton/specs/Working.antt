@@ -2,7 +2,8 @@
 -- cases of the answer, over the sheet and all slices before and after.
 use mathlib.Core.Path.{_≡_}
 use mathlib.Core.List.{List, [], _∷_, _++_}
-use Prim.Native.Nat.{ℕ, _+_, _*_, _<_, _≤_}
+use mathlib.Core.Logic.{_⊎_}
+use Prim.Native.Nat.{ℕ, zero, suc, _+_, _*_, _<_, _≤_}
 use lib.ListN.{length, getD, drop}
 use Rattle.std.specs.declared.result.Result.{Result}
 use Rattle.std.specs.declared.result.Result.the-variants.{Ok, Err}
@@ -142,3 +143,50 @@ module _ {K : Type 0} (k : Algebra K) where
   abbrev pub Rounded : Work → Slices-of K → ℕ → Work → Slices-of K → ℕ → Result (Unit {0}) Refusal → Type 0
   Rounded w s calls w′ s′ calls′ (Ok done) = Rounds-once w s calls w′ s′ calls′
   Rounded w s calls w′ s′ calls′ (Err why) = Refused (round-questions w s) why × Same-work w w′ × (s′ ≡ s) × (calls′ ≡ calls)
+
+  -- So many rounds one after the other, each made where f of the values was not the values.
+  abbrev pub Made : ℕ → ℕ → ℕ → Slices-of K → Slices-of K → Type 0
+  Made n held zero s s′ = s′ ≡ s
+  Made n held (suc j) s s′ = (mid : Slices-of K) × Made n held j s mid × (Solved-by n held mid → ⊥) × Newton-step n held mid s′
+
+  -- The solver's count behind so many calls.
+  abbrev pub counted : ℕ → ℕ → ℕ
+  counted zero calls = calls
+  counted (suc j) calls = one-more (counted j calls)
+
+  -- Rounds from a sheet that has made some: how many, and what they leave.
+  pub record Rounds-on (n held before : ℕ) (s : Slices-of K) (calls after : ℕ) (s′ : Slices-of K) (calls′ : ℕ) : Type 0 where
+    pub more : ℕ
+    pub made : Made n held more s s′
+    pub count : after ≡ before + more
+    pub calls-are : calls′ ≡ counted more calls
+
+  -- What settle leaves: the values behind the rounds that it made, column and grid cleared.
+  pub record Leaves-off (n held before : ℕ) (s : Slices-of K) (calls after : ℕ) (s′ : Slices-of K) (calls′ : ℕ) : Type 0 where
+    pub last : Slices-of K
+    pub rounds-on : Rounds-on n held before s calls after last calls′
+    pub values : s′ .values ≡ last .values
+    pub cleared : Cleared n s s′
+
+  -- Settle makes rounds as long as f of the values is not the values, then closes.
+  pub record Settles (w : Work) (s : Slices-of K) (calls : ℕ) (f : Settled) (s′ : Slices-of K) (calls′ : ℕ) : Type 0 where
+    pub asked : Passed (slice-questions (w .n) (w .held) s)
+    pub n : f .n ≡ w .n
+    pub held : f .held ≡ w .held
+    pub left : Leaves-off (w .n) (w .held) (w .rounds) s calls (f .rounds) s′ calls′
+    pub solved : Solved-by (w .n) (w .held) s′
+
+  -- A further round is due, and n have been made: what was made is kept.
+  pub record Stops (w : Work) (s : Slices-of K) (calls : ℕ) (w′ : Work) (s′ : Slices-of K) (calls′ : ℕ) : Type 0 where
+    pub asked : Passed (slice-questions (w .n) (w .held) s)
+    pub n : w′ .n ≡ w .n
+    pub held : w′ .held ≡ w .held
+    pub left : Leaves-off (w .n) (w .held) (w .rounds) s calls (w′ .rounds) s′ calls′
+    pub due : Solved-by (w .n) (w .held) s′ → ⊥
+    pub all : w′ .rounds ≡ w .n
+
+  abbrev pub Settles-by : Work → Slices-of K → ℕ → Slices-of K → ℕ → Result Settled (Work × Refusal) → Type 0
+  Settles-by w s calls s′ calls′ (Ok f) = Settles w s calls f s′ calls′
+  Settles-by w s calls s′ calls′ (Err e) =
+      (Refused (slice-questions (w .n) (w .held) s) (e .1) × Same-work w (e .0) × (s′ ≡ s) × (calls′ ≡ calls))
+      ⊎ ((e .1 ≡ Rounds) × Stops w s calls (e .0) s′ calls′)

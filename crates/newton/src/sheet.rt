@@ -35,4 +35,5 @@ pub struct Settled {
 }
 
 mod drafting;
+mod figures;
 mod working;

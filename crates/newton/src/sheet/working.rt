@@ -3,9 +3,10 @@ ghost use mathlib.Core.Path.{_≡_};
 ghost use mathlib.Core.Bool.{true, false};
 ghost use Prim.Native.Nat.{ℕ, _*_, _≤_, _<_};
 ghost use lib.ListN.{length, getD};
-ghost use Rattle.equations.specs.Held.{no-branch, written};
+ghost use Rattle.equations.specs.Held.{no-branch, written, rules-of};
 ghost use Rattle.newton.specs.Questions.{Asked};
-ghost use Rattle.newton.specs.Working.{All-sound, slice-questions, Started, Climbed, Closed, Figured, Newton-step, Rounded};
+ghost use Rattle.newton.specs.Working.{All-sound, slice-questions, Started, Climbed, Closed, Newton-step, Rounded, Rounds-on, Settles-by};
+ghost use Rattle.equations.specs.Equations.{Solves};
 ghost use Rattle.linear.specs.Solved.{Fits, Accepted, one-more};
 ghost use Rattle.linear.specs.System.{entry-at};
 use super::Draft;
@@ -139,6 +140,38 @@ fn step<K: Semiring, S: Solver>(
     clear(n * n, grid);
 }
 
+// Makes rounds as long as the values do not solve the equations and fewer than n have been made.
+// Answers how many have been made in all, and whether the values solve the equations.
+fn make_rounds<K: Semiring, S: Solver>(
+    solver: &mut S,
+    n: usize,
+    held: usize,
+    rounds: usize,
+    branches: &[Branch],
+    weights: &[K],
+    values: &mut [K],
+    column: &mut [K],
+    grid: &mut [K],
+) -> (usize, bool)
+    requires few { ⌜ n ≤ 32 ⌝ ∗ ⌜ rounds ≤ n ⌝ }
+    requires script { ⌜ held ≤ length (now branches) ⌝ ∗ ⌜ held ≤ length (now weights) ⌝ }
+    requires room { ⌜ n ≤ length (now values) ⌝ ∗ ⌜ n ≤ length (now column) ⌝ ∗ ⌜ n * n ≤ length (now grid) ⌝ }
+    ensures bound { λ r. ⌜ r .0 ≤ n ⌝ }
+    ensures rounds { λ r. ⌜ Rounds-on (K·Semiring .algebra) n held rounds (record { branches = now (branches .entry); weights = now (weights .entry); values = now (values .entry); column = now (column .entry); grid = now (grid .entry) }) (S·Solver .calls (now (solver .entry))) (r .0) (record { branches = now (branches .entry); weights = now (weights .entry); values = now (values .exit); column = now (column .exit); grid = now (grid .exit) }) (S·Solver .calls (now (solver .exit))) ⌝ }
+    ensures solved { λ r. ⌜ (r .1 ≡ true → Solves (K·Semiring .algebra) n (rules-of (K·Semiring .algebra) held (now (branches .entry)) (now (weights .entry))) (entry-at (K·Semiring .algebra) (now (values .exit)))) ⌝ }
+    ensures due { λ r. ⌜ (r .1 ≡ false → (Solves (K·Semiring .algebra) n (rules-of (K·Semiring .algebra) held (now (branches .entry)) (now (weights .entry))) (entry-at (K·Semiring .algebra) (now (values .exit))) → ⊥) × (r .0 ≡ n)) ⌝ }
+{
+    let mut made = rounds;
+    while !solves(n, held, branches, weights, values) {
+        if made >= n {
+            return (made, false);
+        }
+        step(solver, n, held, branches, weights, values, column, grid);
+        made += 1;
+    }
+    (made, true)
+}
+
 impl Work {
     // Replaces the values by the least solution of the linear system at them.
     pub fn round<K: Semiring, S: Solver>(
@@ -190,6 +223,52 @@ impl Work {
         Ok(())
     }
 
+    // Makes rounds as long as the values do not solve the equations, then closes.
+    pub fn settle<K: Semiring, S: Solver>(
+        self,
+        solver: &mut S,
+        branches: &[Branch],
+        weights: &[K],
+        values: &mut [K],
+        column: &mut [K],
+        grid: &mut [K],
+    ) -> Result<Settled, (Work, Refusal)>
+        ensures { λ r. ⌜ Settles-by (K·Semiring .algebra) self (record { branches = now (branches .entry); weights = now (weights .entry); values = now (values .entry); column = now (column .entry); grid = now (grid .entry) }) (S·Solver .calls (now (solver .entry))) (record { branches = now (branches .entry); weights = now (weights .entry); values = now (values .exit); column = now (column .exit); grid = now (grid .exit) }) (S·Solver .calls (now (solver .exit))) r ⌝ }
+    {
+        let n = self.n;
+        let held = self.held;
+        let rounds = self.rounds;
+        if let Err(refusal) = ready(n, held, branches, weights, values, column, grid) {
+            return Err((self, refusal));
+        }
+        let (made, solved) = make_rounds(
+            solver,
+            n,
+            held,
+            rounds,
+            branches,
+            weights,
+            values,
+            column,
+            grid,
+        );
+        clear(n, column);
+        clear(n * n, grid);
+        if !solved {
+            let work = Work {
+                n,
+                held,
+                rounds: made,
+            };
+            return Err((work, Refusal::Rounds));
+        }
+        Ok(Settled {
+            n,
+            held,
+            rounds: made,
+        })
+    }
+
     // Takes a sheet whose values solve the equations to settled.
     pub fn close<K: Semiring>(
         self,
@@ -217,28 +296,7 @@ impl Work {
     pub fn rounds(&self) -> usize
         ensures { λ r. ⌜ r ≡ now (self .entry) .rounds ⌝ }
     {
-        self.rounds
-    }
-}
-
-impl Settled {
-    // The figure of a routine.
-    pub fn figure<K: Semiring>(&self, values: &[K], routine: usize) -> Result<K, Refusal>
-        ensures { λ r. ⌜ Figured algebra (now (self .entry)) (now (values .entry)) routine r ⌝ }
-    {
-        if values.len() < self.n {
-            return Err(Refusal::Slices);
-        }
-        if routine >= self.n {
-            return Err(Refusal::Routine);
-        }
-        Ok(values[routine])
-    }
-
-    // How many rounds were made.
-    pub fn rounds(&self) -> usize
-        ensures { λ r. ⌜ r ≡ now (self .entry) .rounds ⌝ }
-    {
-        self.rounds
+        let Work { rounds, .. } = self;
+        *rounds
     }
 }

@@ -12,8 +12,7 @@ loop-item-again g c =
     let after = g .S·Source .feed (c .next .last .self) in
     let told = c .in-Continue-item .ensures tt in
     let item = c .in-Some .item in
-    let given = gave (before .items) (before .ending) item after (subst (λ o. Gives before (Ok o) after) (c .in-Some .is) (told .gives)) in
-    (
+    let given = gave (before .items) (before .ending) item after (subst (λ o. Gives before (Ok o) after) (c .in-Some .is) (told .gives)) in (
       λ d bs ws r rest.
           c .loop-item .inv .0 d bs ws r
           (subst₂ (λ items ending. Loads (g .W·Weighing .weight) items ending (c .loop-item .self) (c .loop-item .branches) (c .loop-item .weights) d bs ws r) (sym (given .0)) (sym (given .1))

@@ -14,8 +14,8 @@ Inv-loop-item g l =
     let s = g .S·Source in
     let w = g .W·Weighing .weight in
     ((d : Draft) (bs : List Branch) (ws : List (g .W .Denot)) (r : Result (Unit {0}) Fault) →
-      Loads w (s .feed (l .source) .items) (s .feed (l .source) .ending) (l .self) (l .branches) (l .weights) d bs ws r →
-      Loads w (s .feed (l .entry .source) .items) (s .feed (l .entry .source) .ending) (l .entry .self) (l .entry .branches) (l .entry .weights) d bs ws r)
+    Loads w (s .feed (l .source) .items) (s .feed (l .source) .ending) (l .self) (l .branches) (l .weights) d bs ws r →
+    Loads w (s .feed (l .entry .source) .items) (s .feed (l .entry .source) .ending) (l .entry .self) (l .entry .branches) (l .entry .weights) d bs ws r)
     × (s .legend (l .source) ≡ s .legend (l .entry .source))
 
 abbrev pub μ-loop-item : given.MeasureT-loop-item

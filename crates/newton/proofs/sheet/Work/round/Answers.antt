@@ -14,12 +14,12 @@ returns-in-Break-ready g c =
     let k = g .K·Semiring .algebra in
     let w = c .args .self .now in
     let s : Slices-of (g .K .Denot) = record {
-          branches = c .args .branches .now;
-          weights = c .args .weights .now;
-          values = c .args .values .now;
-          column = c .args .column .now;
-          grid = c .args .grid .now;
-        } in
+      branches = c .args .branches .now;
+      weights = c .args .weights .now;
+      values = c .args .values .now;
+      column = c .args .column .now;
+      grid = c .args .grid .now;
+    } in
     let p = err-from-errBy (c .from-residual .result) (c .from-residual .ensures .1) in
     subst (Rounded k w s (g .S·Solver .calls (c .args .solver .now)) w s (g .S·Solver .calls (c .args .solver .now))) (sym (p .1 ∙ ap Err (p .2)))
     (refused-more (slice-questions k (w .n) (w .held) s) ((Solved, (Solved-by k (w .n) (w .held) s → ⊥)) ∷ (Rounds, w .rounds < w .n) ∷ []) (c .in-Break-ready .field-0 .0) (c .in-Break-ready .ensures tt), record { n = refl; held = refl; rounds = refl }, refl, refl)
