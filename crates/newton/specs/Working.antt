@@ -85,18 +85,19 @@ module _ {K : Type 0} (k : Algebra K) where
   abbrev pub Solved-by : ℕ → ℕ → Slices-of K → Type 0
   Solved-by n held s = Solves k n (held-rules held s) (values-of s)
 
-  -- Climb: the values become f of the values, where that is another.
-  abbrev pub climb-questions : Work → Slices-of K → List Question
-  climb-questions w s = slice-questions (w .n) (w .held) s ++ (Solved, (Solved-by (w .n) (w .held) s → ⊥)) ∷ []
+  -- The questions of the calls that go on: those, and whether there is anything to do.
+  abbrev pub due-questions : ℕ → ℕ → Slices-of K → List Question
+  due-questions n held s = slice-questions n held s ++ (Solved, (Solved-by n held s → ⊥)) ∷ []
 
+  -- Climb: the values become f of the values.
   pub record Climbs (w : Work) (s s′ : Slices-of K) : Type 0 where
-    pub asked : Passed (climb-questions w s)
+    pub asked : Passed (due-questions (w .n) (w .held) s)
     pub values : s′ .values ≡ written (image k (held-rules (w .held) s) (values-of s)) (w .n) (s .values)
     pub cleared : Cleared (w .n) s s′
 
   abbrev pub Climbed : Work → Slices-of K → Slices-of K → Result (Unit {0}) Refusal → Type 0
   Climbed w s s′ (Ok done) = Climbs w s s′
-  Climbed w s s′ (Err why) = Refused (climb-questions w s) why × (s′ ≡ s)
+  Climbed w s s′ (Err why) = Refused (due-questions (w .n) (w .held) s) why × (s′ ≡ s)
 
   -- Close: only the state changes, and only where the values solve the equations.
   abbrev pub close-questions : Work → Slices-of K → List Question
@@ -130,7 +131,7 @@ module _ {K : Type 0} (k : Algebra K) where
 
   -- Round: its questions, and what it does, with one call of the solver.
   abbrev pub round-questions : Work → Slices-of K → List Question
-  round-questions w s = slice-questions (w .n) (w .held) s ++ (Solved, (Solved-by (w .n) (w .held) s → ⊥)) ∷ (Rounds, w .rounds < w .n) ∷ []
+  round-questions w s = due-questions (w .n) (w .held) s ++ (Rounds, w .rounds < w .n) ∷ []
 
   pub record Rounds-once (w : Work) (s : Slices-of K) (calls : ℕ) (w′ : Work) (s′ : Slices-of K) (calls′ : ℕ) : Type 0 where
     pub asked : Passed (round-questions w s)

@@ -5,7 +5,7 @@ ghost use Prim.Native.Nat.{ℕ, _*_, _≤_, _<_};
 ghost use lib.ListN.{length, getD};
 ghost use Rattle.equations.specs.Held.{no-branch, written, rules-of};
 ghost use Rattle.newton.specs.Questions.{Asked};
-ghost use Rattle.newton.specs.Working.{All-sound, slice-questions, Started, Climbed, Closed, Newton-step, Rounded, Rounds-on, Settles-by};
+ghost use Rattle.newton.specs.Working.{All-sound, slice-questions, due-questions, Started, Climbed, Closed, Newton-step, Rounded, Rounds-on, Settles-by};
 ghost use Rattle.equations.specs.Equations.{Solves};
 ghost use Rattle.linear.specs.Solved.{Fits, Accepted, one-more};
 ghost use Rattle.linear.specs.System.{entry-at};
@@ -66,6 +66,26 @@ fn ready<K: Semiring>(
     }
     if !all_sound(n as u8, held, branches) {
         return Err(Refusal::Held);
+    }
+    Ok(())
+}
+
+// The questions of the calls that go on, in order.
+fn due<K: Semiring>(
+    n: usize,
+    held: usize,
+    branches: &[Branch],
+    weights: &[K],
+    values: &[K],
+    column: &[K],
+    grid: &[K],
+) -> Result<(), Refusal>
+    requires { ⌜ n ≤ 32 ⌝ }
+    ensures { λ r. ⌜ Asked (due-questions algebra n held (record { branches = now (branches .entry); weights = now (weights .entry); values = now (values .entry); column = now (column .entry); grid = now (grid .entry) })) r ⌝ }
+{
+    ready(n, held, branches, weights, values, column, grid)?;
+    if solves(n, held, branches, weights, values) {
+        return Err(Refusal::Solved);
     }
     Ok(())
 }
@@ -187,10 +207,7 @@ impl Work {
     {
         let n = self.n;
         let held = self.held;
-        ready(n, held, branches, weights, values, column, grid)?;
-        if solves(n, held, branches, weights, values) {
-            return Err(Refusal::Solved);
-        }
+        due(n, held, branches, weights, values, column, grid)?;
         if self.rounds >= n {
             return Err(Refusal::Rounds);
         }
@@ -212,10 +229,7 @@ impl Work {
     {
         let n = self.n;
         let held = self.held;
-        ready(n, held, branches, weights, values, column, grid)?;
-        if solves(n, held, branches, weights, values) {
-            return Err(Refusal::Solved);
-        }
+        due(n, held, branches, weights, values, column, grid)?;
         image(n, held, branches, weights, values, column);
         copy(n, column, values);
         clear(n, column);
