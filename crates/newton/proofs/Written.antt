@@ -4,11 +4,11 @@ use mathlib.Core.List.{List, [], _∷_, _++_}
 use Prim.Native.Nat.{ℕ, zero, suc, _<_, _≤_}
 use native.Mathlib.Omega.{arith}
 use lib.ListN.{length, drop, length-append, length-drop}
-use Rattle.std.proofs.shelf.Lists.{length-push, drop-at}
+use Rattle.std.proofs.shelf.Lists.{drop-at}
 use Rattle.semiring.specs.Algebra.{Algebra}
 use Rattle.linear.specs.System.{entry-at}
 use Rattle.equations.specs.Held.{table, written}
-use Rattle.equations.proofs.Slices.{entry-written}
+use Rattle.equations.proofs.Slices.{entry-written, length-table}
 
 table-same : {X : Type 0} (f g : ℕ → X) (n : ℕ) → ((i : ℕ) → i < n → f i ≡ g i) → table f n ≡ table g n
 table-same f g zero same = refl
@@ -16,10 +16,6 @@ table-same f g (suc n) same = λ j. table-same f g n (λ i below. same i (omega 
 
 written-same : {X : Type 0} (f g : ℕ → X) (n : ℕ) (xs : List X) → ((i : ℕ) → i < n → f i ≡ g i) → written f n xs ≡ written g n xs
 written-same f g n xs same = ap (λ l. l ++ drop n xs) (table-same f g n same)
-
-length-table : {X : Type 0} (f : ℕ → X) (n : ℕ) → length (table f n) ≡ n
-length-table f zero = refl
-length-table f (suc n) = length-push (table f n) (f n) ∙ omega (arith, length-table f n)
 
 -- what is written twice was written last
 pub written-over : {X : Type 0} (f g : ℕ → X) (n : ℕ) (xs ys : List X) → ys ≡ written g n xs → written f n ys ≡ written f n xs
