@@ -11,8 +11,8 @@ use native.Mathlib.Omega.{arith}
 use lib.Arith.{digits-lt, digits-div, digits-mod}
 use lib.Dec.{eqb}
 use lib.ListN.{length, getD, take, drop, set, length-append}
-use lib.Seq.{take-all}
 use Rattle.std.proofs.shelf.Tests.{eq-eqb, ne-eqb, cond-true, cond-false}
+use Rattle.std.proofs.shelf.Parts.{first-rest}
 use Rattle.std.proofs.shelf.Lists.{drop-more, set-at, getD-at, getD-append-left, getD-read}
 use Rattle.semiring.specs.Algebra.{Algebra}
 use Rattle.semiring.proofs.Dioid.{dioid}
@@ -23,22 +23,18 @@ use Rattle.equations.specs.Rule.{Rule}
 use Rattle.equations.specs.Held.{table, written, rows, rule-of, no-branch, rules-of}
 use Rattle.equations.specs.Equations.{over, called, others}
 
-split-first : (xs : List ℕ) → 0 < length xs → xs ≡ getD xs 0 0 ∷ take (length xs - 1) (drop 1 xs)
-split-first [] l = absurd (omega arith)
-split-first (x ∷ xs) l = ap (λ ys. x ∷ ys) (sym (take-all (length (x ∷ xs) - 1) xs (omega arith)))
-
 module _ {K : Type 0} (k : Algebra K) (v : ℕ → K) where
   pub called-more : (calls : List ℕ) (a b w : K) → 0 < length calls → a ≡ v (getD calls 0 0) → b ≡ called k v (take (length calls - 1) (drop 1 calls)) → w ≡ k .times a b → w ≡ called k v calls
-  called-more calls a b w some first rest is = is ∙ ap₂ (k .times) first rest ∙ sym (ap (called k v) (split-first calls some))
+  called-more calls a b w some first rest is = is ∙ ap₂ (k .times) first rest ∙ sym (ap (called k v) (first-rest calls 0 some))
 
   -- The first call names q, or not.
   pub others-here : (q : ℕ) (calls : List ℕ) (a b c t w : K) → 0 < length calls → getD calls 0 0 ≡ q → a ≡ v (getD calls 0 0) → b ≡ others k v q (take (length calls - 1) (drop 1 calls)) → c ≡ called k v (take (length calls - 1) (drop 1 calls)) → t ≡ k .times a b → w ≡ k .plus c t → w ≡ others k v q calls
   others-here q calls a b c t w some names first rest others′ product is =
-      is ∙ ap₂ (k .plus) (others′ ∙ sym (cond-true (eqb (getD calls 0 0) q) _ (k .zero) (eq-eqb (getD calls 0 0) q names))) (product ∙ ap₂ (k .times) first rest) ∙ sym (ap (others k v q) (split-first calls some))
+      is ∙ ap₂ (k .plus) (others′ ∙ sym (cond-true (eqb (getD calls 0 0) q) _ (k .zero) (eq-eqb (getD calls 0 0) q names))) (product ∙ ap₂ (k .times) first rest) ∙ sym (ap (others k v q) (first-rest calls 0 some))
 
   pub others-past : (q : ℕ) (calls : List ℕ) (a b t : K) → 0 < length calls → (getD calls 0 0 ≡ q → ⊥) → a ≡ v (getD calls 0 0) → b ≡ others k v q (take (length calls - 1) (drop 1 calls)) → t ≡ k .times a b → t ≡ others k v q calls
   others-past q calls a b t some apart first rest product =
-      sym (Order.zero-under (dioid k) t) ∙ ap₂ (k .plus) (sym (cond-false (eqb (getD calls 0 0) q) _ (k .zero) (ne-eqb (getD calls 0 0) q apart))) (product ∙ ap₂ (k .times) first rest) ∙ sym (ap (others k v q) (split-first calls some))
+      sym (Order.zero-under (dioid k) t) ∙ ap₂ (k .plus) (sym (cond-false (eqb (getD calls 0 0) q) _ (k .zero) (ne-eqb (getD calls 0 0) q apart))) (product ∙ ap₂ (k .times) first rest) ∙ sym (ap (others k v q) (first-rest calls 0 some))
 
 module _ {K : Type 0} (k : Algebra K) (g : List ℕ → K) (r : ℕ) where
   over-push : (rules : List (Rule K)) (rule : Rule K) → over k (rules ++ rule ∷ []) g r ≡ k .plus (over k rules g r) (cond (eqb (rule .routine) r) (k .times (rule .weight) (g (rule .calls))) (k .zero))

@@ -1,6 +1,6 @@
 -- A refusal stays one when more questions follow.
 use mathlib.Core.List.{List, [], _∷_, _++_}
-use mathlib.Core.Logic.{_⊎_, inl, inr}
+use mathlib.Core.Logic.{inl, inr}
 use Rattle.newton.specs.declared.refusal.Refusal.{Refusal}
 use Rattle.newton.specs.Questions.{Question, Refused}
 

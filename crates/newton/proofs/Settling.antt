@@ -5,7 +5,7 @@ use Prim.Native.Nat.{ℕ, zero, suc, _*_}
 use lib.ListN.{drop}
 use Rattle.semiring.specs.Algebra.{Algebra}
 use Rattle.equations.specs.Held.{table, written}
-use Rattle.newton.specs.Working.{Slices-of, Cleared, Made, Rounds-on, Leaves-off}
+use Rattle.newton.specs.Working.{Slices-of, Made, Rounds-on, Leaves-off}
 use Rattle.newton.proofs.Written.{written-tail}
 
 module _ {K : Type 0} (k : Algebra K) (n held : ℕ) where

@@ -2,7 +2,7 @@
 use mathlib.Core.Path.{_≡_, refl, ap, _∙_}
 use mathlib.Core.List.{List, _++_}
 use Prim.Native.Nat.{ℕ, _*_, _≤_}
-use lib.ListN.{length, drop}
+use lib.ListN.{length}
 use Rattle.semiring.specs.Algebra.{Algebra}
 use Rattle.linear.specs.System.{cell, entry-at}
 use Rattle.linear.specs.Solved.{Accepted}

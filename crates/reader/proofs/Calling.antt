@@ -1,5 +1,5 @@
 -- Numbering the names of a calls word, one at a time from the left.
-use mathlib.Core.Path.{_≡_, refl, sym, ap, subst, _∙_}
+use mathlib.Core.Path.{ap, subst, _∙_}
 use mathlib.Core.List.{List, [], _∷_, _++_, append-assoc}
 use mathlib.Core.Logic.{_⊎_, inl, inr}
 use Prim.Native.Nat.{ℕ, _<_, _≤_}
@@ -11,8 +11,8 @@ use Rattle.std.specs.declared.option.Option.the-variants.{Some, None}
 use Rattle.std.proofs.shelf.Lists.{length-push}
 use Rattle.reader.specs.declared.line.Calls.{Calls}
 use Rattle.reader.specs.Known.{Numbered}
-use Rattle.script.specs.Legend.{Legend, number-of, met, all-met, numbers-of}
-use Rattle.reader.specs.Row.{counted, Numbers}
+use Rattle.script.specs.Legend.{Legend, met, all-met, numbers-of}
+use Rattle.reader.specs.Row.{Numbers}
 use Rattle.reader.proofs.Numbering.{Old, New, old-or-new}
 
 -- a legend never shrinks

@@ -1,21 +1,18 @@
 -- The lines of a text, one at a time: what the next call gives at each state of the reading.
 use mathlib.Core.Path.{_≡_, refl, sym, ap, subst, subst₂, transport, _∙_}
-use mathlib.Core.Bool.{cond}
 use mathlib.Core.List.{List, [], _∷_}
 use Prim.Native.Nat.{ℕ, _+_, _<_}
-use native.Mathlib.Nat.{not-suc-le-zero, add-assoc, add-zero}
+use native.Mathlib.Nat.{not-suc-le-zero}
 use native.Mathlib.Omega.{arith}
 use lib.ListN.{length}
 use Rattle.std.specs.declared.option.Option.{Option}
 use Rattle.std.specs.declared.option.Option.the-variants.{Some, None}
 use Rattle.std.specs.declared.result.Result.{Result}
 use Rattle.std.specs.declared.result.Result.the-variants.{Ok, Err}
-use Rattle.std.specs.shelf.Text.{sameBytes}
 use Rattle.std.proofs.shelf.Lists.{nil-from-length}
 use Rattle.script.specs.declared.branch.Branch.{Branch}
 use Rattle.script.specs.declared.branch.Placed.{Placed}
 use Rattle.script.specs.declared.fault.Fault.{Fault}
-use Rattle.reader.specs.declared.refusal.Refusal.the-variants.{Words}
 use Rattle.script.specs.Feed.{Feed, Gives}
 use Rattle.reader.specs.Format.{pieces, line-end, space}
 use Rattle.script.specs.Legend.{Legend}
@@ -23,7 +20,7 @@ use Rattle.reader.specs.declared.text.TextSource.{TextSource}
 use Rattle.reader.specs.Known.{known}
 use Rattle.reader.specs.Unread.{feed-behind, At-end}
 use Rattle.reader.proofs.Pieces.{pieces-some}
-use Rattle.reader.specs.Text.{Misread, line-refusal, line-branch, line-met, failed, ended, reader-fault, line-feed, line-legend, lines-feed, lines-legend, first-line, behind-first}
+use Rattle.reader.specs.Text.{Misread, line-refusal, line-branch, line-met, failed, ended, reader-fault, line-feed, line-legend, lines-feed, lines-legend}
 
 -- a line with others behind it
 module _ (legend : Legend) (line byte : ℕ) (l : List ℕ) where

@@ -4,9 +4,7 @@ use mathlib.Core.Bool.{Bool, true, false, cond}
 use mathlib.Core.List.{List, [], _∷_}
 use Prim.Native.Nat.{ℕ, _+_, _<_, _≤_}
 use native.Mathlib.Nat.{not-suc-le-zero}
-use lib.Dec.{leb}
 use lib.ListN.{length}
-use Rattle.std.specs.declared.option.Option.{Option}
 use Rattle.std.specs.declared.option.Option.the-variants.{Some, None}
 use Rattle.std.specs.Orderings.{Decides}
 use Rattle.std.specs.shelf.Text.{sameBytes}
@@ -14,7 +12,6 @@ use Rattle.std.proofs.shelf.Equals.{sameBytes-decides}
 use Rattle.std.proofs.shelf.Tests.{le-leb, lt-leb}
 use Rattle.std.proofs.shelf.Ways.{same-from-decides}
 use Rattle.reader.specs.declared.refusal.Refusal.the-variants.{Size, FirstLine}
-use Rattle.script.specs.Feed.{Feed}
 use Rattle.reader.specs.Format.{pieces, line-end}
 use Rattle.script.specs.Legend.{Legend}
 use Rattle.reader.specs.Text.{first-line, behind-first, opened, opened-legend, failed, reader-fault, lines-feed, lines-legend, text-feed, text-legend}

@@ -12,7 +12,7 @@ use Rattle.std.specs.shelf.Text.{sameBytes}
 use Rattle.std.proofs.shelf.Equals.{sameBytes-decides}
 use Rattle.std.proofs.shelf.Lists.{length-take-le, getD-map, getD-take, take-more-set, map-push, length-push}
 use Rattle.std.proofs.shelf.Ways.{same-from-decides}
-use Rattle.script.specs.Legend.{Legend, number-of, met}
+use Rattle.script.specs.Legend.{Legend, number-of}
 use Rattle.reader.specs.Known.{name-bytes, known, Numbered}
 use Rattle.reader.specs.declared.names.Name.{Name}
 use Rattle.reader.specs.declared.names.Names.{Names}

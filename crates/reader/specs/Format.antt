@@ -1,6 +1,5 @@
 -- The words of the file format: pieces between separators, names and numbers. A text is the list
 -- of its bytes.
-use mathlib.Core.Path.{_≡_}
 use mathlib.Core.Bool.{Bool, true, false, cond, not, _&&_, _||_}
 use mathlib.Core.List.{List, [], _∷_}
 use Prim.Native.Nat.{ℕ, _+_, _-_, _*_}

@@ -1,6 +1,5 @@
 -- What the bytes of a script file stand for: a list of branches with their places, an ending,
 -- and the names of the routines by number.
-use mathlib.Core.Path.{_≡_}
 use mathlib.Core.Bool.{Bool, true, false, cond}
 use mathlib.Core.List.{List, [], _∷_, _++_}
 use Prim.Native.Nat.{ℕ, zero, suc, _+_}

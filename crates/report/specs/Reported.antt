@@ -5,14 +5,13 @@ use mathlib.Core.List.{List, [], _∷_, _++_}
 use Prim.Native.Nat.{ℕ}
 use lib.Chars.{codes}
 use lib.ListN.{length}
-use Rattle.std.specs.declared.option.Option.{Option}
 use Rattle.std.specs.declared.option.Option.the-variants.{Some, None}
 use Rattle.std.specs.declared.result.Result.{Result}
 use Rattle.std.specs.declared.result.Result.the-variants.{Ok, Err}
 use Rattle.std.specs.Of.String.{string-bytes}
 use Rattle.std.specs.Written.{decimal}
 use Rattle.script.specs.declared.fault.Fault.{Fault}
-use Rattle.script.specs.Feed.{Feed, Ending}
+use Rattle.script.specs.Feed.{Feed}
 use Rattle.script.specs.Shown.{fault-text}
 use Rattle.reader.specs.Text.{text-feed, text-legend}
 use Rattle.report.specs.declared.Report.{Report}

@@ -1,6 +1,6 @@
 -- One call of a table source, at the end of the table and before it.
 use mathlib.Core.Path.{_≡_, refl, sym, subst₂}
-use mathlib.Core.List.{List, [], _∷_}
+use mathlib.Core.List.{List}
 use Prim.Native.Nat.{ℕ, _+_, _<_, _≤_}
 use lib.ListN.{length, getD, drop}
 use Rattle.std.specs.declared.option.Option.the-variants.{Some, None}

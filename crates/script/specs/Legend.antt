@@ -1,8 +1,8 @@
 -- The numbering of routine names: each name has the number of its place among the names met so
 -- far, and a new name comes last.
-use mathlib.Core.Bool.{Bool, cond}
+use mathlib.Core.Bool.{cond}
 use mathlib.Core.List.{List, [], _∷_}
-use Prim.Native.Nat.{ℕ, zero, suc}
+use Prim.Native.Nat.{ℕ, suc}
 use Rattle.std.specs.shelf.Text.{sameBytes}
 
 -- A name is the list of its bytes; a legend is the names in the order of their numbers.

@@ -1,4 +1,4 @@
-use mathlib.Core.Path.{_≡_, sym, subst, subst₂, _∙_}
+use mathlib.Core.Path.{sym, subst, subst₂, _∙_}
 use mathlib.Core.Logic.{inr}
 use Rattle.std.specs.declared.result.Result.the-variants.{Ok}
 use Rattle.script.specs.Feed.{Gives}

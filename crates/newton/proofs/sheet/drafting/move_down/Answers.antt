@@ -2,7 +2,6 @@ use mathlib.Core.Path.{_≡_, sym, ap, _∙_}
 use Prim.Native.Nat.{_+_, _<_}
 use native.Mathlib.Omega.{arith}
 use lib.ListN.{length, set, getD}
-use Rattle.newton.specs.Drafting.{shifted}
 use Rattle.newton.proofs.Shifting.{shifted-none, next-kept, shifted-more}
 use Rattle.newton.proofs.sheet.drafting.move_down.Needs as need
 

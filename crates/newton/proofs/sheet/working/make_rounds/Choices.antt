@@ -1,8 +1,6 @@
 use Prim.Native.Nat.{_-_, _≤_}
 use Rattle.newton.specs.Working.{Rounds-on}
 use Rattle.newton.proofs.sheet.working.make_rounds.Given as given
-use lib.ListN.{length}
-use mathlib.Core.Path.{_≡_}
 
 abbrev pub Inv-loop-n : given.InvT-loop-n
 Inv-loop-n g l =

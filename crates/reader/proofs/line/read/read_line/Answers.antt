@@ -1,15 +1,13 @@
-use mathlib.Core.Path.{_≡_, refl, sym, ap, subst, _∙_}
+use mathlib.Core.Path.{sym, ap, subst, _∙_}
 use Prim.Native.Nat.{_+_}
 use native.Mathlib.Omega.{arith}
 use lib.ListN.{length}
 use Rattle.std.specs.declared.result.Result.the-variants.{Ok, Err}
 use Rattle.std.proofs.shelf.Results.{err-from-errBy}
 use Rattle.reader.specs.declared.refusal.Refusal.the-variants.{Words}
-use Rattle.reader.specs.Format.{pieces}
 use Rattle.reader.specs.Known.{known}
-use Rattle.script.specs.Legend.{all-met}
 use Rattle.reader.specs.Text.{line-refusal, line-branch, line-met}
-use Rattle.reader.specs.Row.{row-words, Called, Reads}
+use Rattle.reader.specs.Row.{row-words, Called}
 use Rattle.reader.proofs.Rows.{not-five, bad-routine, bad-seconds, bad-light, bad-turn, bad-calls, good-line, branch-is, handed-on}
 use Rattle.reader.proofs.line.read.read_line.Needs as need
 
