@@ -1,6 +1,8 @@
 // The equations of a script that lies in lent slices: f at a routine or in a column, the slopes in
 // a grid, and whether values solve the equations. Held are the first `held` branches with their
 // weights. A value past the end of the value slice is read as zero.
+#![tactic(auto)]
+
 ghost use Rattle.std.specs.Prelude.{◌≡◌, ◌*◌, ◌≤◌, true, false, length};
 ghost use Rattle.linear.specs.System.{entry_at};
 ghost use Rattle.equations.specs.Held.{rules_of, written, rows};
@@ -16,7 +18,7 @@ pub mod kind;
 pub mod possible;
 
 fn value_at<K: Semiring>(values: &[K], r: usize) -> K
-    ensures { result ≡ entry_at algebra values.now r }
+    ensures { result ≡ entry_at K.algebra values.now r }
 {
     if r < values.len() {
         values[r]
@@ -27,7 +29,7 @@ fn value_at<K: Semiring>(values: &[K], r: usize) -> K
 
 // The product of the values of the calls.
 fn called<K: Semiring>(values: &[K], calls: &[u8]) -> K
-    ensures { result ≡ called algebra (entry_at algebra values.now) calls.now }
+    ensures { result ≡ called K.algebra (entry_at K.algebra values.now) calls.now }
 {
     match calls {
         [] => K::one(),
@@ -37,7 +39,7 @@ fn called<K: Semiring>(values: &[K], calls: &[u8]) -> K
 
 // The sum, over the calls of routine q, of the product of the values of the other calls.
 fn others<K: Semiring>(values: &[K], q: usize, calls: &[u8]) -> K
-    ensures { result ≡ others algebra (entry_at algebra values.now) q calls.now }
+    ensures { result ≡ others K.algebra (entry_at K.algebra values.now) q calls.now }
 {
     match calls {
         [] => K::zero(),
@@ -61,7 +63,7 @@ pub fn image_at<K: Semiring>(
     r: usize,
 ) -> K
     requires { (held ≤ length branches.now) × (held ≤ length weights.now) }
-    ensures { result ≡ image algebra (rules_of algebra held branches.now weights.now) (entry_at algebra values.now) r }
+    ensures { result ≡ image K.algebra (rules_of K.algebra held branches.now weights.now) (entry_at K.algebra values.now) r }
 {
     let mut all = K::zero();
     for i in 0..held {
@@ -82,7 +84,7 @@ pub fn slope_at<K: Semiring>(
     q: usize,
 ) -> K
     requires { (held ≤ length branches.now) × (held ≤ length weights.now) }
-    ensures { result ≡ slope algebra (rules_of algebra held branches.now weights.now) (entry_at algebra values.now) r q }
+    ensures { result ≡ slope K.algebra (rules_of K.algebra held branches.now weights.now) (entry_at K.algebra values.now) r q }
 {
     let mut slope = K::zero();
     for i in 0..held {
@@ -103,7 +105,7 @@ pub fn image<K: Semiring>(
     column: &mut [K],
 )
     requires { (held ≤ length branches.now) × ((held ≤ length weights.now) × (n ≤ length column.old)) }
-    ensures { column.new ≡ written (image algebra (rules_of algebra held branches.now weights.now) (entry_at algebra values.now)) n column.old }
+    ensures { column.new ≡ written (image K.algebra (rules_of K.algebra held branches.now weights.now) (entry_at K.algebra values.now)) n column.old }
 {
     for r in 0..n {
         column[r] = image_at(held, branches, weights, values, r);
@@ -120,7 +122,7 @@ pub fn slopes<K: Semiring>(
     grid: &mut [K],
 )
     requires { (held ≤ length branches.now) × ((held ≤ length weights.now) × (n * n ≤ length grid.old)) }
-    ensures { grid.new ≡ written (rows n (slope algebra (rules_of algebra held branches.now weights.now) (entry_at algebra values.now))) (n * n) grid.old }
+    ensures { grid.new ≡ written (rows n (slope K.algebra (rules_of K.algebra held branches.now weights.now) (entry_at K.algebra values.now))) (n * n) grid.old }
 {
     for i in 0..n * n {
         grid[i] = slope_at(held, branches, weights, values, i / n, i % n);
@@ -137,9 +139,9 @@ pub fn solves<K: Semiring>(
     values: &[K],
 ) -> bool
     requires { (held ≤ length branches.now) × (held ≤ length weights.now) }
-    ensures yes { result ≡ true → Solves algebra n (rules_of algebra held branches.now weights.now) (entry_at algebra values.now) }
-    ensures no { result ≡ false → Solves algebra n (rules_of algebra held branches.now weights.now) (entry_at algebra values.now) → ⊥ }
-    ensures convergence { Convergence algebra }
+    ensures yes { result ≡ true → Solves K.algebra n (rules_of K.algebra held branches.now weights.now) (entry_at K.algebra values.now) }
+    ensures no { result ≡ false → Solves K.algebra n (rules_of K.algebra held branches.now weights.now) (entry_at K.algebra values.now) → ⊥ }
+    ensures convergence { Convergence K.algebra }
 {
     for routine in 0..n {
         let image = image_at(held, branches, weights, values, routine);

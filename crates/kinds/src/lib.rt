@@ -1,4 +1,6 @@
 // The four kinds of weight: least and most seconds, light, and the disc's stations.
+#![tactic(auto)]
+
 pub mod bounded;
 pub mod disc;
 pub mod figures;

@@ -13,7 +13,7 @@ use semiring::Semiring;
 // Adds row p to the rows from `from` up to `to`, multiplied by what each has at p.
 fn pass<K: Semiring>(grid: &mut Grid<'_, K>, p: usize, from: usize, to: usize)
     requires { (Square grid.old.n grid.old.cells.now) × ((p < grid.old.n) × ((from ≤ to) × ((to ≤ grid.old.n) × ((from ≤ p → p < to → ⊥))))) }
-    ensures rows { Passed algebra grid.old.n p from to grid.old.cells.now grid.new.cells.now }
+    ensures rows { Passed K.algebra grid.old.n p from to grid.old.cells.now grid.new.cells.now }
     ensures size { grid.new.n ≡ grid.old.n }
     ensures same { grid.new.cells.ghost_name ≡ grid.old.cells.ghost_name }
 {
@@ -26,7 +26,7 @@ fn pass<K: Semiring>(grid: &mut Grid<'_, K>, p: usize, from: usize, to: usize)
 // Lets every way pass p, any number of times.
 fn step<K: Semiring>(grid: &mut Grid<'_, K>, p: usize)
     requires { (Square grid.old.n grid.old.cells.now) × (p < grid.old.n) }
-    ensures cells { Stepped algebra grid.old.n p (cell algebra grid.old.n grid.old.cells.now) (cell algebra grid.old.n grid.new.cells.now) }
+    ensures cells { Stepped K.algebra grid.old.n p (cell K.algebra grid.old.n grid.old.cells.now) (cell K.algebra grid.old.n grid.new.cells.now) }
     ensures past { Free grid.old.n grid.old.cells.now grid.new.cells.now }
     ensures size { grid.new.n ≡ grid.old.n }
     ensures same { grid.new.cells.ghost_name ≡ grid.old.cells.ghost_name }
@@ -41,7 +41,7 @@ fn step<K: Semiring>(grid: &mut Grid<'_, K>, p: usize)
 // Forms all ways of the grid.
 fn form<K: Semiring>(grid: &mut Grid<'_, K>)
     requires { Square grid.old.n grid.old.cells.now }
-    ensures cells { Closed algebra grid.old.n grid.old.n (cell algebra grid.old.n grid.old.cells.now) (cell algebra grid.old.n grid.new.cells.now) }
+    ensures cells { Closed K.algebra grid.old.n grid.old.n (cell K.algebra grid.old.n grid.old.cells.now) (cell K.algebra grid.old.n grid.new.cells.now) }
     ensures past { Free grid.old.n grid.old.cells.now grid.new.cells.now }
     ensures size { grid.new.n ≡ grid.old.n }
     ensures same { grid.new.cells.ghost_name ≡ grid.old.cells.ghost_name }
@@ -55,7 +55,7 @@ fn form<K: Semiring>(grid: &mut Grid<'_, K>)
 // that is multiplied already adds nothing new to the next.
 fn multiply<K: Semiring>(grid: &Grid<'_, K>, column: &mut [K])
     requires { (Square grid.now.n grid.now.cells.now) × (grid.now.n ≤ length column.old) }
-    ensures least { (a : ℕ → ℕ → K) → Closed algebra grid.now.n grid.now.n a (cell algebra grid.now.n grid.now.cells.now) → Least algebra grid.now.n a (entry_at algebra column.old) (entry_at algebra column.new) }
+    ensures least { (a : ℕ → ℕ → K) → Closed K.algebra grid.now.n grid.now.n a (cell K.algebra grid.now.n grid.now.cells.now) → Least K.algebra grid.now.n a (entry_at K.algebra column.old) (entry_at K.algebra column.new) }
     ensures places { drop grid.now.n column.new ≡ drop grid.now.n column.old }
 {
     for r in 0..grid.n {
@@ -65,7 +65,7 @@ fn multiply<K: Semiring>(grid: &Grid<'_, K>, column: &mut [K])
 
 fn close<K: Semiring>(n: usize, cells: &mut [K], column: &mut [K])
     requires { (Square n cells.old) × (n ≤ length column.old) }
-    ensures { Leaves algebra n cells.old column.old cells.new column.new }
+    ensures { Leaves K.algebra n cells.old column.old cells.new column.new }
 {
     let mut grid = Grid { cells, n };
     form(&mut grid);

@@ -12,8 +12,8 @@ use semiring::Semiring;
 // Solves row p for its own unknown: p goes out of it, and the rest is multiplied by the star.
 fn solve_row<K: Semiring>(grid: &mut Grid<'_, K>, column: &mut [K], p: usize)
     requires square { (Square grid.old.n grid.old.cells.now) × ((p < grid.old.n) × (grid.old.n ≤ length column.old)) }
-    requires cleared { Cleared algebra grid.old.n p p (cell algebra grid.old.n grid.old.cells.now) }
-    ensures system { Removed algebra grid.old.n p (p + 1) grid.old.cells.now column.old grid.new.cells.now column.new }
+    requires cleared { Cleared K.algebra grid.old.n p p (cell K.algebra grid.old.n grid.old.cells.now) }
+    ensures system { Removed K.algebra grid.old.n p (p + 1) grid.old.cells.now column.old grid.new.cells.now column.new }
     ensures size { grid.new.n ≡ grid.old.n }
     ensures same { grid.new.cells.ghost_name ≡ grid.old.cells.ghost_name }
 {
@@ -26,8 +26,8 @@ fn solve_row<K: Semiring>(grid: &mut Grid<'_, K>, column: &mut [K], p: usize)
 // Puts row p into row i, in the place of the unknown p.
 fn put_into<K: Semiring>(grid: &mut Grid<'_, K>, column: &mut [K], p: usize, i: usize)
     requires square { (Square grid.old.n grid.old.cells.now) × ((p < i) × ((i < grid.old.n) × (grid.old.n ≤ length column.old))) }
-    requires cleared { Cleared algebra grid.old.n p i (cell algebra grid.old.n grid.old.cells.now) }
-    ensures system { Removed algebra grid.old.n p (i + 1) grid.old.cells.now column.old grid.new.cells.now column.new }
+    requires cleared { Cleared K.algebra grid.old.n p i (cell K.algebra grid.old.n grid.old.cells.now) }
+    ensures system { Removed K.algebra grid.old.n p (i + 1) grid.old.cells.now column.old grid.new.cells.now column.new }
     ensures size { grid.new.n ≡ grid.old.n }
     ensures same { grid.new.cells.ghost_name ≡ grid.old.cells.ghost_name }
 {
@@ -40,8 +40,8 @@ fn put_into<K: Semiring>(grid: &mut Grid<'_, K>, column: &mut [K], p: usize, i: 
 // Removes the unknown p from its own row and from those after it.
 fn remove<K: Semiring>(grid: &mut Grid<'_, K>, column: &mut [K], p: usize)
     requires square { (Square grid.old.n grid.old.cells.now) × ((p < grid.old.n) × (grid.old.n ≤ length column.old)) }
-    requires cleared { Cleared algebra grid.old.n p p (cell algebra grid.old.n grid.old.cells.now) }
-    ensures system { Removed algebra grid.old.n (p + 1) (p + 1) grid.old.cells.now column.old grid.new.cells.now column.new }
+    requires cleared { Cleared K.algebra grid.old.n p p (cell K.algebra grid.old.n grid.old.cells.now) }
+    ensures system { Removed K.algebra grid.old.n (p + 1) (p + 1) grid.old.cells.now column.old grid.new.cells.now column.new }
     ensures size { grid.new.n ≡ grid.old.n }
     ensures same { grid.new.cells.ghost_name ≡ grid.old.cells.ghost_name }
 {
@@ -54,7 +54,7 @@ fn remove<K: Semiring>(grid: &mut Grid<'_, K>, column: &mut [K], p: usize)
 // Removes every unknown, in rising number.
 fn remove_all<K: Semiring>(grid: &mut Grid<'_, K>, column: &mut [K])
     requires { (Square grid.old.n grid.old.cells.now) × (grid.old.n ≤ length column.old) }
-    ensures system { Removed algebra grid.old.n grid.old.n grid.old.n grid.old.cells.now column.old grid.new.cells.now column.new }
+    ensures system { Removed K.algebra grid.old.n grid.old.n grid.old.n grid.old.cells.now column.old grid.new.cells.now column.new }
     ensures size { grid.new.n ≡ grid.old.n }
     ensures same { grid.new.cells.ghost_name ≡ grid.old.cells.ghost_name }
 {
@@ -66,8 +66,8 @@ fn remove_all<K: Semiring>(grid: &mut Grid<'_, K>, column: &mut [K])
 // Puts the values back, from the last row up.
 fn put_back<K: Semiring>(grid: &Grid<'_, K>, column: &mut [K])
     requires square { (Square grid.now.n grid.now.cells.now) × (grid.now.n ≤ length column.old) }
-    requires cleared { Cleared algebra grid.now.n grid.now.n grid.now.n (cell algebra grid.now.n grid.now.cells.now) }
-    ensures least { Least algebra grid.now.n (cell algebra grid.now.n grid.now.cells.now) (entry_at algebra column.old) (entry_at algebra column.new) }
+    requires cleared { Cleared K.algebra grid.now.n grid.now.n grid.now.n (cell K.algebra grid.now.n grid.now.cells.now) }
+    ensures least { Least K.algebra grid.now.n (cell K.algebra grid.now.n grid.now.cells.now) (entry_at K.algebra column.old) (entry_at K.algebra column.new) }
     ensures places { drop grid.now.n column.new ≡ drop grid.now.n column.old }
 {
     for r in (0..grid.n).rev() {
@@ -77,7 +77,7 @@ fn put_back<K: Semiring>(grid: &Grid<'_, K>, column: &mut [K])
 
 fn eliminate<K: Semiring>(n: usize, cells: &mut [K], column: &mut [K])
     requires { (Square n cells.old) × (n ≤ length column.old) }
-    ensures { Leaves algebra n cells.old column.old cells.new column.new }
+    ensures { Leaves K.algebra n cells.old column.old cells.new column.new }
 {
     let mut grid = Grid { cells, n };
     remove_all(&mut grid, column);

@@ -16,7 +16,7 @@ fn place(n: usize, r: usize, q: usize) -> usize
 
 pub(crate) fn read<K: Semiring>(cells: &[K], i: usize) -> K
     requires { i < length cells.now }
-    ensures { result ≡ slice_index_or cells.now i algebra.zero }
+    ensures { result ≡ slice_index_or cells.now i K.algebra.zero }
 {
     cells[i]
 }
@@ -39,7 +39,7 @@ impl<'a, K: Semiring> Grid<'a, K> {
     // The weight in row r, place q.
     pub(crate) fn at(&self, r: usize, q: usize) -> K
         requires { (Square self.now.n self.now.cells.now) × ((r < self.now.n) × (q < self.now.n)) }
-        ensures { result ≡ cell algebra self.now.n self.now.cells.now r q }
+        ensures { result ≡ cell K.algebra self.now.n self.now.cells.now r q }
     {
         read(self.cells, place(self.n, r, q))
     }
@@ -57,8 +57,8 @@ impl<'a, K: Semiring> Grid<'a, K> {
     // The weight in row r, place q, for which it leaves zero.
     pub(crate) fn take(&mut self, r: usize, q: usize) -> K
         requires { (Square self.old.n self.old.cells.now) × ((r < self.old.n) × (q < self.old.n)) }
-        ensures was { result ≡ cell algebra self.old.n self.old.cells.now r q }
-        ensures cells { self.new.cells.now ≡ slice_set self.old.cells.now (r * self.old.n + q) algebra.zero }
+        ensures was { result ≡ cell K.algebra self.old.n self.old.cells.now r q }
+        ensures cells { self.new.cells.now ≡ slice_set self.old.cells.now (r * self.old.n + q) K.algebra.zero }
         ensures size { self.new.n ≡ self.old.n }
         ensures same { self.new.cells.ghost_name ≡ self.old.cells.ghost_name }
     {
@@ -70,7 +70,7 @@ impl<'a, K: Semiring> Grid<'a, K> {
     // Multiplies row r by a weight.
     pub(crate) fn scale_row(&mut self, r: usize, by: K)
         requires { (Square self.old.n self.old.cells.now) × (r < self.old.n) }
-        ensures cells { Rewritten algebra self.old.n r self.old.n (scaled algebra self.old.n self.old.cells.now r by) self.old.cells.now self.new.cells.now }
+        ensures cells { Rewritten K.algebra self.old.n r self.old.n (scaled K.algebra self.old.n self.old.cells.now r by) self.old.cells.now self.new.cells.now }
         ensures size { self.new.n ≡ self.old.n }
         ensures same { self.new.cells.ghost_name ≡ self.old.cells.ghost_name }
     {
@@ -83,7 +83,7 @@ impl<'a, K: Semiring> Grid<'a, K> {
     // Adds row p, multiplied by a weight, to row r.
     pub(crate) fn add_row(&mut self, r: usize, by: K, p: usize)
         requires { (Square self.old.n self.old.cells.now) × ((r < self.old.n) × (p < self.old.n)) }
-        ensures cells { Rewritten algebra self.old.n r self.old.n (added algebra self.old.n self.old.cells.now r by p) self.old.cells.now self.new.cells.now }
+        ensures cells { Rewritten K.algebra self.old.n r self.old.n (added K.algebra self.old.n self.old.cells.now r by p) self.old.cells.now self.new.cells.now }
         ensures size { self.new.n ≡ self.old.n }
         ensures same { self.new.cells.ghost_name ≡ self.old.cells.ghost_name }
     {
@@ -96,7 +96,7 @@ impl<'a, K: Semiring> Grid<'a, K> {
     // What row r makes of the values in a column, plus the value of r itself.
     pub(crate) fn value(&self, column: &[K], r: usize) -> K
         requires { (Square self.now.n self.now.cells.now) × ((r < self.now.n) × (self.now.n ≤ length column.now)) }
-        ensures { result ≡ right_side algebra self.now.n (cell algebra self.now.n self.now.cells.now) (entry_at algebra column.now) (entry_at algebra column.now) r }
+        ensures { result ≡ right_side K.algebra self.now.n (cell K.algebra self.now.n self.now.cells.now) (entry_at K.algebra column.now) (entry_at K.algebra column.now) r }
     {
         let mut all = K::zero();
         for q in 0..self.n {
@@ -108,7 +108,7 @@ impl<'a, K: Semiring> Grid<'a, K> {
     // Puts that in the place of the value of r.
     pub(crate) fn apply(&self, column: &mut [K], r: usize)
         requires { (Square self.now.n self.now.cells.now) × ((r < self.now.n) × (self.now.n ≤ length column.old)) }
-        ensures { column.new ≡ slice_set column.old r (right_side algebra self.now.n (cell algebra self.now.n self.now.cells.now) (entry_at algebra column.old) (entry_at algebra column.old) r) }
+        ensures { column.new ≡ slice_set column.old r (right_side K.algebra self.now.n (cell K.algebra self.now.n self.now.cells.now) (entry_at K.algebra column.old) (entry_at K.algebra column.old) r) }
     {
         let value = self.value(column, r);
         write(column, r, value);

@@ -1,4 +1,6 @@
 // Linear systems over any kind of weight, and two solvers for them.
+#![tactic(auto)]
+
 pub mod agreement;
 pub mod closure;
 pub mod elimination;

@@ -1,5 +1,7 @@
 // The sheet: a draft that branches are entered into, at work while its equations are being solved,
 // settled once its figures can be read.
+#![tactic(auto)]
+
 pub mod refusal;
 mod sheet;
 

@@ -1,4 +1,6 @@
 // The text source: a script file read from its bytes, line by line.
+#![tactic(auto)]
+
 mod line;
 mod names;
 pub mod refusal;

@@ -1,4 +1,6 @@
 // From the bytes of a script file to the bytes that are printed for it.
+#![tactic(auto)]
+
 ghost use Rattle.std.specs.Prelude.{◌≡◌, ◌^◌, ◌<◌, length, IfOk, OnOk};
 ghost use Rattle.reader.specs.Text.{ended};
 ghost use Rattle.report.specs.Reported.{Counted, Reported};

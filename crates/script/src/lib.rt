@@ -1,4 +1,6 @@
 // Examination scripts: branches, how a kind weighs one, and the sources that branches come from.
+#![tactic(auto)]
+
 pub mod branch;
 pub mod fault;
 pub mod source;

@@ -1,5 +1,7 @@
 // A kind of weight. Engines, solvers and sources above are one text for every kind, proved from
 // this interface alone.
+#![tactic(auto)]
+
 ghost use Rattle.std.specs.Prelude.{◌≡◌, true, false, ◌≢◌};
 ghost use Rattle.semiring.specs.Algebra.{Algebra, Under};
 ghost use Rattle.semiring.specs.Order.{OrderLaws};
@@ -38,16 +40,16 @@ pub trait Semiring: Copy {
 
 // Yes exactly where a lies under b.
 pub fn lies_under<K: Semiring>(a: K, b: K) -> bool
-    ensures yes { result ≡ true → Under algebra a b }
-    ensures no { result ≡ false → Under algebra a b → ⊥ }
+    ensures yes { result ≡ true → Under K.algebra a b }
+    ensures no { result ≡ false → Under K.algebra a b → ⊥ }
 {
     a.sum(b).same(b)
 }
 
 // The sum of all weights of a slice, which is their least upper bound.
 pub fn total<K: Semiring>(weights: &[K]) -> K
-    ensures sum { result ≡ total algebra weights.now }
-    ensures bound { LeastAbove algebra weights.now result }
+    ensures sum { result ≡ total K.algebra weights.now }
+    ensures bound { LeastAbove K.algebra weights.now result }
 {
     let mut all = K::zero();
     for weight in weights {
@@ -58,7 +60,7 @@ pub fn total<K: Semiring>(weights: &[K]) -> K
 
 // star(a) × b: b after a, any number of times.
 fn starred<K: Semiring>(a: K, b: K) -> K
-    ensures { result ≡ algebra.times (algebra.star a) b }
+    ensures { result ≡ K.algebra.times (K.algebra.star a) b }
 {
     a.star().product(b)
 }
@@ -66,9 +68,9 @@ fn starred<K: Semiring>(a: K, b: K) -> K
 // The least solution of x = a x + b; with it, what the order is that it is least in, and what
 // every star is good for.
 pub fn solve_one<K: Semiring>(a: K, b: K) -> K
-    ensures least { LeastSolution algebra a b result }
-    ensures order { OrderLaws algebra }
-    ensures star { StarLaws algebra a }
+    ensures least { LeastSolution K.algebra a b result }
+    ensures order { OrderLaws K.algebra }
+    ensures star { StarLaws K.algebra a }
 {
     starred(a, b)
 }

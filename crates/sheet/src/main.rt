@@ -1,5 +1,7 @@
 // The program: a script file on standard input, the line for it on standard output. A script that
 // is refused ends the process with status 1 behind its line.
+#![tactic(auto)]
+
 use anyhow::anyhow;
 use report::{Report, printed};
 use std::io::Read;

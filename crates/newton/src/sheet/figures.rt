@@ -9,7 +9,7 @@ use semiring::Semiring;
 impl Settled {
     // The figure of a routine.
     pub fn figure<K: Semiring>(&self, values: &[K], routine: usize) -> Result<K, Refusal>
-        ensures { Figured algebra self.now values.now routine result }
+        ensures { Figured K.algebra self.now values.now routine result }
     {
         if values.len() < self.n {
             return Err(Refusal::Slices);

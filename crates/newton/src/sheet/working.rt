@@ -32,7 +32,7 @@ fn all_sound(n: u8, held: usize, branches: &[Branch]) -> bool
 // Fills the first places with zero.
 fn clear<K: Semiring>(places: usize, items: &mut [K])
     requires { places ≤ length items.old }
-    ensures { items.new ≡ written (λ r. algebra.zero) places items.old }
+    ensures { items.new ≡ written (λ r. K.algebra.zero) places items.old }
 {
     for i in 0..places {
         items[i] = K::zero();
@@ -50,7 +50,7 @@ fn ready<K: Semiring>(
     grid: &[K],
 ) -> Result<(), Refusal>
     requires { n ≤ 32 }
-    ensures { Asked (slice_questions algebra n held (record { branches = branches.entry.now; weights = weights.now; values = values.now; column = column.now; grid = grid.now })) result }
+    ensures { Asked (slice_questions K.algebra n held (record { branches = branches.entry.now; weights = weights.now; values = values.now; column = column.now; grid = grid.now })) result }
 {
     if branches.len() < held || weights.len() < held {
         return Err(Refusal::Slices);
@@ -75,7 +75,7 @@ fn due<K: Semiring>(
     grid: &[K],
 ) -> Result<(), Refusal>
     requires { n ≤ 32 }
-    ensures { Asked (due_questions algebra n held (record { branches = branches.entry.now; weights = weights.now; values = values.now; column = column.now; grid = grid.now })) result }
+    ensures { Asked (due_questions K.algebra n held (record { branches = branches.entry.now; weights = weights.now; values = values.now; column = column.now; grid = grid.now })) result }
 {
     ready(n, held, branches, weights, values, column, grid)?;
     if solves(n, held, branches, weights, values) {
@@ -94,7 +94,7 @@ impl Draft {
         column: &mut [K],
         grid: &mut [K],
     ) -> Result<Work, (Draft, Refusal)>
-        ensures { Started algebra self (record { branches = branches.entry.now; weights = weights.now; values = values.old; column = column.old; grid = grid.old }) (record { branches = branches.entry.now; weights = weights.now; values = values.new; column = column.new; grid = grid.new }) result }
+        ensures { Started K.algebra self (record { branches = branches.entry.now; weights = weights.now; values = values.old; column = column.old; grid = grid.old }) (record { branches = branches.entry.now; weights = weights.now; values = values.new; column = column.new; grid = grid.new }) result }
     {
         let n = self.n;
         let held = self.held;
@@ -111,7 +111,7 @@ impl Draft {
 // Copies the first places.
 fn copy<K: Semiring>(places: usize, from: &[K], to: &mut [K])
     requires { (places ≤ length from.now) × (places ≤ length to.old) }
-    ensures { to.new ≡ written (entry_at algebra from.now) places to.old }
+    ensures { to.new ≡ written (entry_at K.algebra from.now) places to.old }
 {
     for i in 0..places {
         to[i] = from[i];
@@ -219,7 +219,7 @@ impl Work {
         column: &mut [K],
         grid: &mut [K],
     ) -> Result<(), Refusal>
-        ensures { Climbed algebra self.now (record { branches = branches.entry.now; weights = weights.now; values = values.old; column = column.old; grid = grid.old }) (record { branches = branches.entry.now; weights = weights.now; values = values.new; column = column.new; grid = grid.new }) result }
+        ensures { Climbed K.algebra self.now (record { branches = branches.entry.now; weights = weights.now; values = values.old; column = column.old; grid = grid.old }) (record { branches = branches.entry.now; weights = weights.now; values = values.new; column = column.new; grid = grid.new }) result }
     {
         let n = self.n;
         let held = self.held;
@@ -278,7 +278,7 @@ impl Work {
         column: &[K],
         grid: &[K],
     ) -> Result<Settled, (Work, Refusal)>
-        ensures { Closed algebra self (record { branches = branches.entry.now; weights = weights.now; values = values.now; column = column.now; grid = grid.now }) result }
+        ensures { Closed K.algebra self (record { branches = branches.entry.now; weights = weights.now; values = values.now; column = column.now; grid = grid.now }) result }
     {
         let n = self.n;
         let held = self.held;
