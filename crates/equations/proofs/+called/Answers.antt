@@ -13,4 +13,4 @@ returns-in-empty g t c =
 pub returns-in-len1-up : goal.returns-in-len1-up
 returns-in-len1-up g t c =
     let k = g.K.Semiring.algebra in
-    called_more k (entry_at k c.args.values.now) c.args.calls.now c.value-at.result c.called.result c.product.result (search rules) c.value-at.ensures c.called.ensures c.product.ensures
+    called_more k (entry_at k c.args.values.now) c.args.calls.now c.value_at.result c.called.result c.product.result (search rules) c.value_at.ensures c.called.ensures c.product.ensures

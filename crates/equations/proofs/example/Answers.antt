@@ -4,4 +4,4 @@ use Rattle.equations.proofs.FourRoutines.{example_holds}
 use Rattle.equations.proofs.example.Goals as goal
 
 pub returns : goal.returns
-returns c = subst Example (sym c.have-runs.ensures) example_holds
+returns c = subst Example (sym c.have_runs.ensures) example_holds

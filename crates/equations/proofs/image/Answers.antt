@@ -8,4 +8,4 @@ use Rattle.equations.proofs.image.Goals as goal
 pub loop-r-preserved : goal.loop-r-preserved
 loop-r-preserved g c =
     let k = g.K.Semiring.algebra in
-    written_more (image k (rules_of k c.args.held c.args.branches.now c.args.weights.now) (entry_at k c.args.values.now)) c.loop-r.r c.args.column.now c.loop-r.column c.image-at.result (omega arith) c.loop-r.invariant c.image-at.ensures
+    written_more (image k (rules_of k c.args.held c.args.branches.now c.args.weights.now) (entry_at k c.args.values.now)) c.loop-r.r c.args.column.now c.loop-r.column c.image_at.result (omega arith) c.loop-r.invariant c.image_at.ensures

@@ -10,6 +10,6 @@ loop-i-preserved g c =
     let k = g.K.Semiring.algebra in
     let part = others k (entry_at k c.args.values.now) c.args.q in
     elim c.if-branches-i.branch [
-      | then-branches-i w ↦ w.slope-is ∙ held_taken k part c.args.r c.args.branches.now c.args.weights.now c.loop-i.i c.loop-i.slope w.index-weights-i.result w.counted-calls.result.now w.others.result w.product.result w.sum-slope.result c.loop-i.invariant w.if-branches-i.true (omega arith) w.index-weights-i.is w.counted-calls.ensures w.others.ensures w.product.ensures w.sum-slope.ensures
+      | then-branches-i w ↦ w.slope-is ∙ held_taken k part c.args.r c.args.branches.now c.args.weights.now c.loop-i.i c.loop-i.slope w.index-weights-i.result w.counted_calls.result.now w.others.result w.product.result w.sum-slope.result c.loop-i.invariant w.if-branches-i.true (omega arith) w.index-weights-i.is w.counted_calls.ensures w.others.ensures w.product.ensures w.sum-slope.ensures
       | else-branches-i w ↦ w.slope-is ∙ held_passed k part c.args.r c.args.branches.now c.args.weights.now c.loop-i.i c.loop-i.slope c.loop-i.invariant w.if-branches-i.false
     ]

@@ -4,7 +4,7 @@ use Rattle.equations.proofs.Converging.{convergence}
 use Rattle.equations.proofs.solves.Goals as goal
 
 pub returns-then-not-same : goal.returns-then-not-same
-returns-then-not-same g c = record { yes = λ e. absurd (false≢true e); no = λ e s. c.same.ensures.no c.if-not-same.true (c.value-at.ensures ∙ s c.loop-routine.routine c.loop-routine-test.true ∙ sym c.image-at-image.ensures); convergence = convergence g.K.Semiring.algebra }
+returns-then-not-same g c = record { yes = λ e. absurd (false≢true e); no = λ e s. c.same.ensures.no c.if-not-same.true (c.value_at.ensures ∙ s c.loop-routine.routine c.loop-routine-test.true ∙ sym c.image_at-image.ensures); convergence = convergence g.K.Semiring.algebra }
 
 pub returns : goal.returns
 returns g c = record { yes = λ e r l. c.loop-routine.invariant r (omega arith); no = λ e. absurd (true≢false e); convergence = convergence g.K.Semiring.algebra }

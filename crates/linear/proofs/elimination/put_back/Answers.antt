@@ -7,7 +7,7 @@ loop-r-init g c = back_start g.K.Semiring.algebra c.args.grid.now.n c.args.grid.
 
 pub loop-r-preserved : goal.loop-r-preserved
 loop-r-preserved g c =
-    back_turn g.K.Semiring.algebra c.args.grid.now.n c.loop-r.r c.args.grid.now.cells.now c.args.column.now c.loop-r.column c.apply.new.column c.loop-r-test.true c.loop-r.auto.r (omega arith) c.requires.1 c.loop-r.invariant.0 c.loop-r.invariant.1 c.apply.ensures
+    back_turn g.K.Semiring.algebra c.args.grid.now.n c.loop-r.r c.args.grid.now.cells.now c.args.column.now c.loop-r.column c.apply.new.column c.loop-r-test.true c.loop-r.auto.r (omega arith) c.requires.cleared c.loop-r.invariant.0 c.loop-r.invariant.1 c.apply.ensures
 
 pub returns : goal.returns
 returns g c = record {

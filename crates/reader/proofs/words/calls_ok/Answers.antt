@@ -12,5 +12,5 @@ returns-in-45 c = sym (lone_minus c.args.word.now (search rules) (search rules))
 
 pub returns-in-len1-up : goal.returns-in-len1-up
 returns-in-len1-up c =
-    c.names-ok.ensures ∙ sym (at_first (λ w. are_names 4 (pieces 43 w)) c.args.word.now (search rules))
+    c.names_ok.ensures ∙ sym (at_first (λ w. are_names 4 (pieces 43 w)) c.args.word.now (search rules))
     ∙ sym (ap (are_names 4) (no_minus c.args.word.now (search rules)))

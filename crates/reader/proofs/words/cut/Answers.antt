@@ -12,9 +12,9 @@ returns c =
     let text = c.args.text.now in
     let i = c.find-end.result in
     let within : i < length text = omega arith in
-    let parts = c.split-at.ensures in
-    let front = c.split-at.result.0.now in
-    let back = c.split-at.result.1.now in (
+    let parts = c.split_at.ensures in
+    let front = c.split_at.result.0.now in
+    let back = c.split_at.result.1.now in (
       cut_pieces sep text i within front back parts.front parts.back c.find-end.ensures.before c.find-end.ensures.found,
       cut_length sep text i within front back parts.front parts.back,
     )

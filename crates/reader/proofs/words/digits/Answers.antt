@@ -5,19 +5,19 @@ use Rattle.reader.specs.Format.{read_on}
 use Rattle.reader.proofs.Digits.{fits, fits_more, fits_stops, fits_past, read_on_more}
 use Rattle.reader.proofs.words.digits.Goals as goal
 
-pub returns-then-not-is-digit : goal.returns-then-not-is-digit
-returns-then-not-is-digit c =
-    sym c.loop-b.invariant.1 ∙ fits_stops c.args.most c.loop-b.value c.args.word.now c.loop-b.b-index c.loop-b-test.true (sym c.if-not-is-digit.ensures)
+pub returns-then-not-is_digit : goal.returns-then-not-is_digit
+returns-then-not-is_digit c =
+    sym c.loop-b.invariant.1 ∙ fits_stops c.args.most c.loop-b.value c.args.word.now c.loop-b.b-index c.loop-b-test.true (sym c.if-not-is_digit.ensures)
 
 pub returns-then-value-most : goal.returns-then-value-most
 returns-then-value-most c =
-    sym c.loop-b.invariant.1 ∙ sym (fits_more c.args.most c.loop-b.value c.args.word.now c.loop-b.b-index c.loop-b-test.true (sym c.if-not-is-digit.ensures))
+    sym c.loop-b.invariant.1 ∙ sym (fits_more c.args.most c.loop-b.value c.args.word.now c.loop-b.b-index c.loop-b-test.true (sym c.if-not-is_digit.ensures))
     ∙ fits_past _ _ (drop (c.loop-b.b-index + 1) c.args.word.now) c.if-value-most.true
 
 pub loop-b-preserved : goal.loop-b-preserved
 loop-b-preserved c = (
   omega arith,
-  fits_more c.args.most c.loop-b.value c.args.word.now c.loop-b.b-index c.loop-b-test.true (sym c.if-not-is-digit.ensures) ∙ c.loop-b.invariant.1,
+  fits_more c.args.most c.loop-b.value c.args.word.now c.loop-b.b-index c.loop-b-test.true (sym c.if-not-is_digit.ensures) ∙ c.loop-b.invariant.1,
   sym (read_on_more c.loop-b.value c.args.word.now c.loop-b.b-index c.loop-b-test.true) ∙ c.loop-b.invariant.2,
 )
 

@@ -4,9 +4,9 @@ use Rattle.kinds.specs.Disc.{star, stations}
 use Rattle.kinds.specs.Laws.Disc.{same_bits}
 use Rattle.kinds.proofs.disc.DiscSemiring.star.Goals as goal
 
-pub invariant-of-result : goal.invariant-of-result
+pub invariant_of-result : goal.invariant_of-result
 unfolding stations
-invariant-of-result c = (omega (arith, ap (λ (m : Multiples). m.bits) c.closing.ensures, (star c.args.self).ok), tt)
+invariant_of-result c = (omega (arith, ap (λ (m : Multiples). m.bits) c.closing.ensures, (star c.args.self).ok), tt)
 
 pub returns : goal.returns
 unfolding stations

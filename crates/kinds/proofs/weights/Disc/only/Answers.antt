@@ -2,8 +2,8 @@ use Rattle.std.proofs.Common.{arith}
 use Rattle.kinds.proofs.Stations.{only_bits, lone_below}
 use Rattle.kinds.proofs.weights.Disc.only.Goals as goal
 
-pub invariant-of-result : goal.invariant-of-result
-invariant-of-result c = (omega (arith, c.bit.ensures, lone_below c.args.station), tt)
+pub invariant_of-result : goal.invariant_of-result
+invariant_of-result c = (omega (arith, c.bit.ensures, lone_below c.args.station), tt)
 
 pub returns : goal.returns
 returns c = only_bits c.args.station _ c.bit.ensures

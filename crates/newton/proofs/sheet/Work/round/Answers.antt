@@ -5,8 +5,8 @@ use Rattle.newton.specs.Working.{SlicesOf, due_questions, Rounded}
 use Rattle.newton.proofs.Asking.{refused_more}
 use Rattle.newton.proofs.sheet.Work.round.Goals as goal
 
-pub returns-in-err-due : goal.returns-in-err-due
-returns-in-err-due g c =
+pub returns-in_err-due : goal.returns-in_err-due
+returns-in_err-due g c =
     let k = g.K.Semiring.algebra in
     let w = c.args.self.now in
     let calls = g.S.Solver.calls c.args.solver.now in
@@ -17,6 +17,6 @@ returns-in-err-due g c =
       column = c.args.column.now;
       grid = c.args.grid.now;
     } in
-    let p = err_from_is_err_and c.from-residual.result c.from-residual.ensures.1 in
+    let p = err_from_is_err_and c.from_residual.result c.from_residual.ensures.1 in
     subst (Rounded k w s calls w s calls) (sym (p.1 ∙ ap Err p.2))
-    (refused_more (due_questions k w.n w.held s) ((Rounds, w.rounds < w.n) ∷ []) c.in-err-due.field-0.0 c.in-err-due.ensures, record { n = refl; held = refl; rounds = refl }, refl, refl)
+    (refused_more (due_questions k w.n w.held s) ((Rounds, w.rounds < w.n) ∷ []) c.in_err-due.field-0.0 c.in_err-due.ensures, record { n = refl; held = refl; rounds = refl }, refl, refl)

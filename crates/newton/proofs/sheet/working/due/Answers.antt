@@ -6,8 +6,8 @@ use Rattle.newton.specs.Working.{SlicesOf, slice_questions, due_questions, Solve
 use Rattle.newton.proofs.Asking.{refused_more}
 use Rattle.newton.proofs.sheet.working.due.Goals as goal
 
-pub returns-in-err-ready : goal.returns-in-err-ready
-returns-in-err-ready g c =
+pub returns-in_err-ready : goal.returns-in_err-ready
+returns-in_err-ready g c =
     let k = g.K.Semiring.algebra in
     let n = c.args.n in
     let held = c.args.held in
@@ -18,6 +18,6 @@ returns-in-err-ready g c =
       column = c.args.column.now;
       grid = c.args.grid.now;
     } in
-    let p = err_from_is_err_and c.from-residual.result c.from-residual.ensures.1 in
+    let p = err_from_is_err_and c.from_residual.result c.from_residual.ensures.1 in
     subst (Asked (due_questions k n held s)) (sym (p.1 ∙ ap Err p.2))
-    (refused_more (slice_questions k n held s) ((Solved, (SolvedBy k n held s → ⊥)) ∷ []) c.in-err-ready.field-0.0 c.in-err-ready.ensures)
+    (refused_more (slice_questions k n held s) ((Solved, (SolvedBy k n held s → ⊥)) ∷ []) c.in_err-ready.field-0.0 c.in_err-ready.ensures)

@@ -7,10 +7,10 @@ pub returns-in-Some : goal.returns-in-Some
 returns-in-Some c =
     ne_eqb _ 5 (λ e. omega (
       arith,
-      ap length c.in-ok-name.ensures.0,
-      ap length c.in-ok-seconds.ensures.0,
-      ap length c.in-ok-light.ensures.0,
-      ap length c.in-ok-turn.ensures.0,
+      ap length c.in_ok-name.ensures.0,
+      ap length c.in_ok-seconds.ensures.0,
+      ap length c.in_ok-light.ensures.0,
+      ap length c.in_ok-turn.ensures.0,
       ap length c.in-Some.ensures.0,
       pieces_some 32 c.in-Some.field-0.1.now,
     ))

@@ -7,11 +7,11 @@ use Rattle.reader.proofs.CallNames.{no_minus, minus_alone}
 use Rattle.reader.proofs.Slots.{length-known}
 use Rattle.reader.proofs.line.read.number_calls.Goals as goal
 
-pub number-names-requires : goal.number-names-requires
-number-names-requires c =
+pub number_names-requires : goal.number_names-requires
+number_names-requires c =
     let w = c.args.word.now in
     let cut = no_minus w (search rules) in
-    ap (λ n. are_names (4 - n) (pieces 43 w)) c.none-in-default.ensures.count ∙ ap (are_names 4) (sym cut) ∙ c.requires
+    ap (λ n. are_names (4 - n) (pieces 43 w)) c.none-in_default.ensures.count ∙ ap (are_names 4) (sym cut) ∙ c.requires
 
 pub returns-in-45 : goal.returns-in-45
 returns-in-45 c =
@@ -23,11 +23,11 @@ returns-in-45 c =
       ap (all_met (known t)) (sym none),
     )
 
-pub returns-in-default : goal.returns-in-default
-returns-in-default c =
+pub returns-in_default : goal.returns-in_default
+returns-in_default c =
     let w = c.args.word.now in
     let cut = no_minus w (search rules) in
     let before = known c.args.names.now in
-    let after = known c.number-names.new.names in
-    subst (λ ws. Numbers before ws [] c.number-names.result after) (sym cut)
-    (subst (λ l. Numbers before (pieces 43 w) l c.number-names.result after) c.none-in-default.ensures.counted c.number-names.ensures)
+    let after = known c.number_names.new.names in
+    subst (λ ws. Numbers before ws [] c.number_names.result after) (sym cut)
+    (subst (λ l. Numbers before (pieces 43 w) l c.number_names.result after) c.none-in_default.ensures.counted c.number_names.ensures)

@@ -2,10 +2,10 @@ use Rattle.std.proofs.Common.{length, ap, ◌∙◌, arith, length-append}
 use Rattle.std.proofs.lemmas.List.{take_at}
 use Rattle.reader.proofs.names.Name.of.Goals as goal
 
-pub invariant-of-result : goal.invariant-of-result
-invariant-of-result c = (simp length-append (omega (arith, ap length c.copy-from-slice.ensures.after)), tt)
+pub invariant_of-result : goal.invariant_of-result
+invariant_of-result c = (simp length-append (omega (arith, ap length c.copy_from_slice.ensures.after)), tt)
 
 pub returns : goal.returns
 returns c =
-    let same = c.copy-from-slice.ensures.after in
-    take_at c.copy-from-slice.new.self _ (length c.args.word.now) (ap length same) ∙ same
+    let same = c.copy_from_slice.ensures.after in
+    take_at c.copy_from_slice.new.self _ (length c.args.word.now) (ap length same) ∙ same

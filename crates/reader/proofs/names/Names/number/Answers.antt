@@ -10,8 +10,8 @@ returns-then-place-eq32 c =
     let t = c.args.self.now in
     at_full (known t) c.args.word.now c.place-place.result (omega (arith, length-known t, t.fits)) c.place-place.ensures c.if-place-eq32.true
 
-pub overflow-cast-result : goal.overflow-cast-result
-overflow-cast-result c =
+pub overflow_cast-result : goal.overflow_cast-result
+overflow_cast-result c =
     let t = c.args.self.now in
     record { fits = omega (arith, length-known t, t.fits, number_le (known t) c.args.word.now, c.place-place.ensures) }
 

@@ -14,7 +14,7 @@ returns-then-eq c =
     let w = c.args.word.now in
     let i = c.loop-i.i in
     let below : i < length (known t) = omega (arith, length-known t) in
-    let same = told t i c.index-self-i.result c.as-bytes.result.now w c.eq.result c.loop-i-test.true c.as-bytes.ensures (slice_eq-Decides Decides-eqb _ _ _ c.eq.ensures) in
+    let same = told t i c.index-self-i.result c.as_bytes.result.now w c.eq.result c.loop-i-test.true c.as_bytes.ensures (slice_eq-Decides Decides-eqb _ _ _ c.eq.ensures) in
     omega (arith, c.loop-i.invariant, number_here (known t) w i below (same ∙ c.if-eq.true))
 
 pub loop-i-preserved : goal.loop-i-preserved
@@ -23,7 +23,7 @@ loop-i-preserved c =
     let w = c.args.word.now in
     let i = c.loop-i.i in
     let below : i < length (known t) = omega (arith, length-known t) in
-    let same = told t i c.index-self-i.result c.as-bytes.result.now w c.eq.result c.loop-i-test.true c.as-bytes.ensures (slice_eq-Decides Decides-eqb _ _ _ c.eq.ensures) in
+    let same = told t i c.index-self-i.result c.as_bytes.result.now w c.eq.result c.loop-i-test.true c.as_bytes.ensures (slice_eq-Decides Decides-eqb _ _ _ c.eq.ensures) in
     omega (arith, c.loop-i.invariant, number_on (known t) w i below (same ∙ c.if-eq.false))
 
 pub returns : goal.returns

@@ -10,17 +10,17 @@ use Rattle.reader.proofs.ReadBack.{read_back_as}
 use Rattle.reader.proofs.text.TextSource.new.Goals as goal
 use Rattle.std.proofs.lemmas.Bool.Decides.{Decides-eqb}
 
-pub returns-then-too-long : goal.returns-then-too-long
-returns-then-too-long c =
+pub returns-then-too_long : goal.returns-then-too_long
+returns-then-too_long c =
     let text = c.args.text.now in
-    let long = ltb-true 16384 (length text) (sym c.too-long.ensures ∙ c.if-too-long.true) in
+    let long = ltb-true 16384 (length text) (sym c.too_long.ensures ∙ c.if-too_long.true) in
     let feed = c.refused.ensures.feed ∙ long_feed text long in
     record { feed = feed; legend = c.refused.ensures.legend ∙ long_legend text long; at_end = at_end; read_back = read_back_as text _ feed }
 
-pub returns-in-default : goal.returns-in-default
-returns-in-default c =
+pub returns-in_default : goal.returns-in_default
+returns-in_default c =
     let text = c.args.text.now in
-    let feed : text_left c.refused-in-default.result ≡ text_feed text = search rules in
+    let feed : text_left c.refused-in_default.result ≡ text_feed text = search rules in
     record { feed = feed; legend = search rules; at_end = at_end; read_back = read_back_as text _ feed }
 
 pub returns-then-ne : goal.returns-then-ne
@@ -28,7 +28,7 @@ returns-then-ne c =
     let text = c.args.text.now in
     let first = c.in-Some.first.now in
     let rest = c.in-Some.rest.now in
-    let short = ltb-false 16384 (length text) (sym c.too-long.ensures ∙ c.if-too-long.false) in
+    let short = ltb-false 16384 (length text) (sym c.too_long.ensures ∙ c.if-too_long.false) in
     let told = c.ne.ensures in
     let same = slice_eq-Decides Decides-eqb first first_line told.0 told.1 in
     let other = not-true told.0 (sym told.2 ∙ c.if-ne.true) in
@@ -45,7 +45,7 @@ returns c =
     let text = c.args.text.now in
     let first = c.in-Some.first.now in
     let rest = c.in-Some.rest.now in
-    let short = ltb-false 16384 (length text) (sym c.too-long.ensures ∙ c.if-too-long.false) in
+    let short = ltb-false 16384 (length text) (sym c.too_long.ensures ∙ c.if-too_long.false) in
     let told = c.ne.ensures in
     let same = slice_eq-Decides Decides-eqb first first_line told.0 told.1 in
     let this = not-false told.0 (sym told.2 ∙ c.if-ne.false) in

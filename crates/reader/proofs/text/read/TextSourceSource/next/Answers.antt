@@ -8,29 +8,29 @@ pub returns-then-self-eq0 : goal.returns-then-self-eq0
 returns-then-self-eq0 c =
     let s = c.args.self.now in
     record {
-      gives = next_at_end s.fault c.in-default.is (known s.names) s.line s.byte s.rest.now c.if-self-eq0.true;
+      gives = next_at_end s.fault c.in_default.is (known s.names) s.line s.byte s.rest.now c.if-self-eq0.true;
       legend = refl;
     }
 
-pub returns-in-err-branch : goal.returns-in-err-branch
-returns-in-err-branch c =
+pub returns-in_err-branch : goal.returns-in_err-branch
+returns-in_err-branch c =
     let s = c.args.self.now in
-    let p = err_from_is_err_and c.from-residual.result c.from-residual.ensures.1 in
-    let h = c.in-err-branch.ensures in
+    let p = err_from_is_err_and c.from_residual.result c.from_residual.ensures.1 in
+    let h = c.in_err-branch.ensures in
     let cut = c.in-Some-cut.ensures in
     record {
-      gives = next_refused s.fault c.in-default.is (known s.names) s.line s.byte s.rest.now c.in-Some-cut.text.now c.in-Some-cut.rest.now cut.0 c.from-residual.result h.0 h.1 (p.1 ∙ ap Err (p.2 ∙ h.2));
+      gives = next_refused s.fault c.in_default.is (known s.names) s.line s.byte s.rest.now c.in-Some-cut.text.now c.in-Some-cut.rest.now cut.0 c.from_residual.result h.0 h.1 (p.1 ∙ ap Err (p.2 ∙ h.2));
       legend = refl;
     }
 
 pub returns : goal.returns
 returns c =
     let s = c.args.self.now in
-    let h = c.in-ok-branch.ensures in
+    let h = c.in_ok-branch.ensures in
     let cut = c.in-Some-cut.ensures in
-    let branch = c.in-ok-branch.branch in
-    let after = known c.in-ok-branch.names in
+    let branch = c.in_ok-branch.branch in
+    let after = known c.in_ok-branch.names in
     record {
-      gives = next_read s.fault c.in-default.is (known s.names) s.line s.byte s.rest.now c.in-Some-cut.text.now c.in-Some-cut.rest.now cut.0 branch after h.0 h.1 h.2;
-      legend = next_legend s.fault c.in-default.is (known s.names) s.line s.byte s.rest.now c.in-Some-cut.text.now c.in-Some-cut.rest.now cut.0 branch after h.0 h.1 h.2;
+      gives = next_read s.fault c.in_default.is (known s.names) s.line s.byte s.rest.now c.in-Some-cut.text.now c.in-Some-cut.rest.now cut.0 branch after h.0 h.1 h.2;
+      legend = next_legend s.fault c.in_default.is (known s.names) s.line s.byte s.rest.now c.in-Some-cut.text.now c.in-Some-cut.rest.now cut.0 branch after h.0 h.1 h.2;
     }
