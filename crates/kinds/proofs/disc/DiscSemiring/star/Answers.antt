@@ -6,7 +6,7 @@ use Rattle.kinds.proofs.disc.DiscSemiring.star.Goals as goal
 
 pub invariant_of-result : goal.invariant_of-result
 unfolding stations
-invariant_of-result c = (omega (arith, ap (λ (m : Multiples). m.bits) c.closing.ensures, (star c.args.self).ok), tt)
+invariant_of-result c = record { ok = omega (arith, ap (λ (m : Multiples). m.bits) c.closing.ensures, (star c.args.self).ok) }
 
 pub returns : goal.returns
 unfolding stations

@@ -10,6 +10,6 @@ loop-s-init c = partial_none c.args.self c.args.other
 pub loop-s-preserved : goal.loop-s-preserved
 loop-s-preserved c =
     elim c.if-has.branch [
-      | then-has w ↦ w.all-is ∙ partial_more c.args.self c.args.other w.turned_all.result _ c.loop-s.s (omega arith) (sym w.if-has.ensures) c.loop-s.invariant w.turned_all.ensures
+      | then-has w ↦ w.all-is ∙ partial_more c.args.self c.args.other w.turned-all.result _ c.loop-s.s (omega arith) (sym w.if-has.ensures) c.loop-s.invariant w.turned-all.ensures
       | else-has w ↦ w.all-is ∙ c.loop-s.invariant ∙ ap (λ (d : Disc). d.bits) (partial_skip c.args.self c.args.other c.loop-s.s (sym w.if-has.ensures))
     ]

@@ -3,7 +3,7 @@ use Rattle.std.proofs.lemmas.List.{take_at}
 use Rattle.reader.proofs.names.Name.of.Goals as goal
 
 pub invariant_of-result : goal.invariant_of-result
-invariant_of-result c = (simp length-append (omega (arith, ap length c.copy_from_slice.ensures.after)), tt)
+invariant_of-result c = record { fits = simp length-append (omega (arith, ap length c.copy_from_slice.ensures.after)) }
 
 pub returns : goal.returns
 returns c =
