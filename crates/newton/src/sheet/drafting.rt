@@ -1,5 +1,5 @@
 // The calls of a draft.
-ghost use Rattle.std.specs.Prelude.{◌≡◌, ◌<◌, ◌≤◌, true, false, [], length, None};
+ghost use Rattle.std.specs.Prelude.{◌≡◌, ◌<◌, ◌≤◌, true, false, [], length, None, OnOk};
 ghost use Rattle.newton.specs.Loading.{Taken, Loads};
 ghost use Rattle.std.specs.List.{AllByRecursion as All};
 ghost use Rattle.newton.specs.Questions.{Asked};
@@ -168,7 +168,7 @@ impl Draft {
         weights: &mut [W],
     ) -> Result<(), Fault>
         ensures loads { Loads W.Weighing.weight (S.Source.feed source.old).items (S.Source.feed source.old).ending self.old branches.old weights.old self.new branches.new weights.new result }
-        ensures used { made result (λ _. S.Source.feed source.new ≡ record { items = []; ending = None }) }
+        ensures used { OnOk result (S.Source.feed source.new ≡ record { items = []; ending = None }) }
         ensures legend { S.Source.legend source.new ≡ S.Source.legend source.old }
     {
         while let Some(item) = source.next()? {

@@ -1,4 +1,5 @@
-use Rattle.std.proofs.Common.{◌≡◌, length, sym, ◌∙◌, rules}
+use Rattle.std.proofs.Common.{◌≡◌, eqb, length, sym, refl, ◌∙◌, rules}
+use Rattle.std.specs.Cmp.Lexicographic.{pointwise}
 use Rattle.std.proofs.lemmas.Slice.Eq.{slice_eq-Decides}
 use Rattle.std.proofs.lemmas.Bool.{ltb-true, ltb-false, not-true, not-false}
 use Rattle.reader.specs.Known.{known}
@@ -29,13 +30,13 @@ returns-then-ne c =
     let first = c.in-Some.first.now in
     let rest = c.in-Some.rest.now in
     let short = ltb-false 16384 (length text) (sym c.too_long.ensures ∙ c.if-too_long.false) in
-    let told = c.ne.ensures in
-    let same = slice_eq-Decides Decides-eqb first first_line told.0 told.1 in
-    let other = not-true told.0 (sym told.2 ∙ c.if-ne.true) in
-    let feed = c.refused-then-ne.ensures.feed ∙ other_feed text first rest short c.in-Some.ensures.0 told.0 same other in
+    let equal = pointwise eqb first first_line in
+    let same = slice_eq-Decides Decides-eqb first first_line equal refl in
+    let other = not-true equal (sym c.ne.ensures ∙ c.if-ne.true) in
+    let feed = c.refused-then-ne.ensures.feed ∙ other_feed text first rest short c.in-Some.ensures.0 equal same other in
     record {
       feed = feed;
-      legend = c.refused-then-ne.ensures.legend ∙ other_legend text first rest short c.in-Some.ensures.0 told.0 same other;
+      legend = c.refused-then-ne.ensures.legend ∙ other_legend text first rest short c.in-Some.ensures.0 equal same other;
       at_end = at_end;
       read_back = read_back_as text _ feed;
     }
@@ -46,13 +47,13 @@ returns c =
     let first = c.in-Some.first.now in
     let rest = c.in-Some.rest.now in
     let short = ltb-false 16384 (length text) (sym c.too_long.ensures ∙ c.if-too_long.false) in
-    let told = c.ne.ensures in
-    let same = slice_eq-Decides Decides-eqb first first_line told.0 told.1 in
-    let this = not-false told.0 (sym told.2 ∙ c.if-ne.false) in
-    let feed = this_feed text first rest short c.in-Some.ensures.0 told.0 same this (known c.none.result) c.none.ensures in
+    let equal = pointwise eqb first first_line in
+    let same = slice_eq-Decides Decides-eqb first first_line equal refl in
+    let this = not-false equal (sym c.ne.ensures ∙ c.if-ne.false) in
+    let feed = this_feed text first rest short c.in-Some.ensures.0 equal same this (known c.none.result) c.none.ensures in
     record {
       feed = feed;
-      legend = this_legend text first rest short c.in-Some.ensures.0 told.0 same this (known c.none.result) c.none.ensures;
+      legend = this_legend text first rest short c.in-Some.ensures.0 equal same this (known c.none.result) c.none.ensures;
       at_end = at_end;
       read_back = read_back_as text _ feed;
     }
