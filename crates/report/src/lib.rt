@@ -19,10 +19,10 @@ pub enum Report {
 
 // Uses a source up, and counts its branches.
 fn count<S: Source>(source: &mut S) -> Result<usize, Fault>
-    requires { length (feed source.old).items < 2 ^ 64 }
-    ensures counted { Counted (feed source.old) result }
-    ensures at_end { OnOk result (feed source.new ≡ ended) }
-    ensures legend { legend source.new ≡ legend source.old }
+    requires { length (S.feed source.old).items < 2 ^ 64 }
+    ensures counted { Counted (S.feed source.old) result }
+    ensures at_end { OnOk result (S.feed source.new ≡ ended) }
+    ensures legend { S.legend source.new ≡ S.legend source.old }
 {
     let mut branches: usize = 0;
     while let Some(_) = source.next()? {
