@@ -2,9 +2,9 @@
 // is refused ends the process with status 1 behind its line.
 #![tactic(auto)]
 
-use anyhow::anyhow;
 use report::{Report, printed};
 use std::io::Read;
+use std::process::ExitCode;
 
 // One byte more than a script may have, so that a longer one is seen to be longer; no more is
 // read, whatever comes.
@@ -17,15 +17,15 @@ fn run(rt: &HostRuntime) -> anyhow::Result<Report> {
     Ok(printed(heap, &text)?)
 }
 
-fn main(rt: HostRuntime) -> anyhow::Result<()> {
+fn main(rt: HostRuntime) -> anyhow::Result<ExitCode> {
     match run(&rt)? {
         Report::Accepted(line) => {
             print!(rt; "{line}")?;
-            Ok(())
+            Ok(ExitCode::SUCCESS)
         }
         Report::Refused(line) => {
             print!(rt; "{line}")?;
-            Err(anyhow!("the script is refused"))
+            Ok(ExitCode::FAILURE)
         }
     }
 }
