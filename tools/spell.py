@@ -48,7 +48,7 @@ def defined(files):
         for line in text.splitlines():
             if line.lstrip().startswith("--"):
                 continue
-            m = re.match(r"\s*(?:(?:abbrev|unfoldable|data|record|pub)\s+)*(" + NAME + r")\s*(?:[({].*)?\s:\s", line)
+            m = re.match(r"\s*(?:(?:abbrev|unfoldable|data|record|pub)\s+)*(" + NAME + r")\s*(?:[({].*)?\s:(?:\s|$)", line)
             if m:
                 names.add(m.group(1))
     return {n for n in names if "-" in n} - goals

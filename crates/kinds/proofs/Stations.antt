@@ -1,5 +1,5 @@
 -- What the disc's code makes of bits is what the formulas say of stations.
-use Rattle.std.proofs.Common.{◌≡◌, ℕ, zero as none, suc, ◌+◌, ◌-◌, ◌*◌, ◌/◌, ◌%◌, ◌^◌, ◌<◌, ◌≤◌, max, Bool, true, false, cond, not, ◌||◌, eqb, ltb, ◌⊎◌, sym, refl, ap, ◌∙◌, ap₂, inl, inr, lt_of_lt_of_le, add-zero, div-add-mod', arith, pow_mono, shl_lt, shl_exact, shr-shr}
+use Rattle.std.proofs.Common.{◌≡◌, ℕ, ◌+◌, ◌-◌, ◌*◌, ◌/◌, ◌%◌, ◌^◌, ◌<◌, ◌≤◌, max, Bool, true, false, cond, ◌||◌, eqb, ltb, ◌⊎◌, sym, refl, ap, ◌∙◌, ap₂, inl, inr, lt_of_lt_of_le, add-zero, div-add-mod', arith, pow_mono, shl_lt, shl_exact, shr-shr}
 use native.Mathlib.Nat.{zero-div}
 use lib.Bits.{bit_or, or_lt}
 use lib.Pow.{pow-lt}

@@ -1,11 +1,11 @@
 -- The product, one station of the first set after the other.
-use Rattle.std.proofs.Common.{◌≡◌, ℕ, zero as none, suc, ◌+◌, ◌-◌, ◌%◌, ◌<◌, ◌≤◌, Bool, true, false, cond, ◌&&◌, ◌||◌, eqb, ◌⊎◌, sym, refl, ap, ◌∙◌, ap₂, inl, inr, add-one, arith}
+use Rattle.std.proofs.Common.{◌≡◌, ℕ, ◌+◌, ◌-◌, ◌%◌, ◌<◌, Bool, true, false, ◌&&◌, ◌||◌, eqb, sym, refl, ap, ◌∙◌, ap₂, add-one, arith}
 use mathlib.Core.Path.{fun_ext}
 use lib.Bits.{bit_or}
 use Rattle.std.proofs.lemmas.Bool.{false≢true, and_parts, and_from, eqb-true, eq-eqb}
 use Rattle.kinds.specs.Bits.{any}
 use Rattle.kinds.specs.declared.weights.Disc.{Disc}
-use Rattle.kinds.specs.Disc.{has, stations, zero, plus, times, turned}
+use Rattle.kinds.specs.Disc.{has, stations, plus, turned}
 use Rattle.kinds.specs.Laws.Bits.{any_gives, gives_any}
 use Rattle.kinds.proofs.Stations.{union_bits}
 use Rattle.kinds.specs.Laws.Disc.{same_stations, has_stations, has_plus, or_comm, both_ways}

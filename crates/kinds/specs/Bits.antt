@@ -1,5 +1,5 @@
 -- Sets of numbers below n, held as the bits of a number.
-use Rattle.std.specs.Prelude.{ℕ, zero, suc, ◌+◌, ◌*◌, Bool, true, false, cond, ◌||◌}
+use Rattle.std.specs.Prelude.{ℕ, zero, suc, ◌+◌, ◌*◌, Bool, false, cond, ◌||◌}
 
 -- The number whose bit 2^s is set exactly where p says yes of s, for s below n.
 abbrev pub bits_of : (ℕ → Bool) → ℕ → ℕ

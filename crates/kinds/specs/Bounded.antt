@@ -1,5 +1,5 @@
 -- Numbers of at most `top`.
-use Rattle.std.specs.Prelude.{ℕ, ◌≤◌, min, max}
+use Rattle.std.specs.Prelude.{ℕ, min, max}
 use Rattle.std.proofs.Common.{arith}
 use Rattle.kinds.specs.declared.weights.Bounded.{Bounded}
 

@@ -1,7 +1,7 @@
 -- The disc, sets of stations 0 to 23: the sum is the union, the product has every (s + u) mod 24 of a
 -- station s of the one and a station u of the other; zero is empty, one is {0}; the star has the
 -- multiples of g, the greatest common divisor of 24 and all stations.
-use Rattle.std.specs.Prelude.{ℕ, zero as none, suc, ◌+◌, ◌-◌, ◌/◌, ◌%◌, ◌^◌, Bool, true, false, cond, not, ◌&&◌, ◌||◌, List, [], ◌∷◌, ◌++◌, ◌==◌, nat_eq}
+use Rattle.std.specs.Prelude.{ℕ, zero as none, suc, ◌+◌, ◌-◌, ◌/◌, ◌%◌, ◌^◌, Bool, false, cond, not, ◌&&◌, ◌||◌, List, [], ◌∷◌, ◌++◌, ◌==◌, nat_eq}
 use Rattle.std.specs.Fmt.{digit_glyph}
 use Rattle.script.specs.declared.branch.Branch.{Branch}
 use Rattle.kinds.specs.Bits.{bits_of, any}

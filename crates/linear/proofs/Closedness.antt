@@ -1,6 +1,6 @@
 -- Kleene's scheme forms all ways of a grid, and the product of its star with the column is the
 -- least solution.
-use Rattle.std.proofs.Common.{◌≡◌, ℕ, suc, ◌+◌, ◌<◌, ◌≤◌, ◌≢◌, ◌⊎◌, sym, refl, ap, ◌∙◌, subst, ap₂, inl, inr, arith}
+use Rattle.std.proofs.Common.{◌≡◌, ℕ, ◌+◌, ◌<◌, ◌≤◌, ◌≢◌, sym, refl, ap, ◌∙◌, subst, ap₂, arith}
 use native.Mathlib.Decide.{dec_lt}
 use Rattle.semiring.specs.Algebra.{Algebra, Under}
 use Rattle.semiring.specs.Sums.{sum_to}

@@ -1,7 +1,7 @@
 -- Every system has a least solution and no other one, and it is a finite sum of products of the
 -- system's entries: whatever holds of the column, and is kept by zero, by sums and by the products
 -- with the grid's entries, holds of it. By removal of the first unknown.
-use Rattle.std.proofs.Common.{◌≡◌, ℕ, zero, suc, ◌<◌, sym, refl, ap, ◌∙◌, subst, ap₂, arith}
+use Rattle.std.proofs.Common.{◌≡◌, ℕ, zero, suc, ◌<◌, sym, ap, ◌∙◌, subst, ap₂, arith}
 use Rattle.semiring.specs.Algebra.{Algebra, Under, powers}
 use Rattle.semiring.specs.Sums.{sum_to}
 use Rattle.semiring.proofs.Dioid.{dioid}

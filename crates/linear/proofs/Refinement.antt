@@ -1,15 +1,14 @@
 -- Removal of an unknown keeps the least solution, and the values put back from the last row up are
 -- that solution.
-use Rattle.std.proofs.Common.{◌≡◌, ℕ, suc, ◌+◌, ◌*◌, ◌<◌, ◌≤◌, ◌≢◌, List, length, drop, set, sym, refl, ap, ◌∙◌, subst, ap₂, arith, get_or-set_other, get_or-set_same, drop-set-lt}
+use Rattle.std.proofs.Common.{◌≡◌, ℕ, suc, ◌+◌, ◌<◌, ◌≤◌, ◌≢◌, sym, refl, ap, ◌∙◌, subst, ap₂, arith}
 use Rattle.semiring.specs.Algebra.{Algebra, Under}
 use Rattle.semiring.specs.Sums.{sum_to}
 use Rattle.semiring.proofs.Dioid.{dioid}
 use Rattle.semiring.proofs.Order
 use Rattle.semiring.proofs.Star
 use Rattle.semiring.proofs.Sums
-use Rattle.linear.specs.System.{right_side, Least, cell, entry_at}
-use Rattle.linear.specs.Rows.{Rewritten}
-use Rattle.linear.specs.Removal.{Above, Solves, Refines, Cleared, Removed}
+use Rattle.linear.specs.System.{right_side, Least}
+use Rattle.linear.specs.Removal.{Above, Refines, Cleared}
 use Rattle.linear.proofs.Cells.{by_equal}
 
 module _ {K : Type 0} (k : Algebra K) (n : ℕ) where

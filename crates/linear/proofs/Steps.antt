@@ -6,7 +6,7 @@ use Rattle.semiring.proofs.Star
 use Rattle.linear.specs.System.{cell, entry_at, right_side, Least, Free, Leaves}
 use Rattle.linear.specs.Rows.{Square, Rewritten, scaled, added}
 use Rattle.linear.specs.Kleene.{Passed, Stepped, Closed}
-use Rattle.linear.specs.Removal.{Refines, Cleared, Removed}
+use Rattle.linear.specs.Removal.{Cleared, Removed}
 use Rattle.linear.proofs.Cells.{by_equal, cell_set_same, cell_set_other, free_none, free_more, free_set, square_free}
 use Rattle.linear.proofs.Closedness.{closed_none, closed_more, Multiplied, multiplied_none, multiplied_more, multiplied_all}
 use Rattle.linear.proofs.Refinement.{refines_refl, refines_trans, refines_least, refines_scaled, refines_added, cleared_next, Back, back_none, back_more, back_all}

@@ -1,5 +1,5 @@
 -- Two solvers leave the same column of one system.
-use Rattle.std.proofs.Common.{◌≡◌, ℕ, zero, suc, ◌<◌, List, [], ◌∷◌, length, get_or, drop, Ok, Err, Result, sym, ap, ◌∙◌, ap₂, arith}
+use Rattle.std.proofs.Common.{◌≡◌, ℕ, zero, suc, ◌<◌, List, [], ◌∷◌, length, get_or, drop, Ok, Err, Result, sym, ◌∙◌, ap₂, arith}
 use Rattle.semiring.specs.Algebra.{Algebra}
 use Rattle.linear.specs.declared.refusal.Refusal.{Refusal}
 use Rattle.linear.specs.declared.refusal.Refusal.TheVariants.{System}

@@ -17,7 +17,7 @@ module _ {K : Type 0} (k : Algebra K) (n held : ℕ) where
       written_tail (λ r. k.zero) (n * n) made.0.grid s'.grid made.3.cleared.grid ∙ grid_kept j s made.0 made.1
 
   -- behind the rounds, column and grid are cleared once more
-  pub left-off :
+  pub left_off :
       (before calls after calls' : ℕ) (s last : SlicesOf K) (column grid : List K) →
       last.branches ≡ s.branches →
       last.weights ≡ s.weights →
@@ -25,7 +25,7 @@ module _ {K : Type 0} (k : Algebra K) (n held : ℕ) where
       column ≡ written (λ r. k.zero) n last.column →
       grid ≡ written (λ r. k.zero) (n * n) last.grid →
       LeavesOff k n held before s calls after (record { branches = last.branches; weights = last.weights; values = last.values; column = column; grid = grid }) calls'
-  left-off before calls after calls' s last column grid same_branches same_weights on none none' = record {
+  left_off before calls after calls' s last column grid same_branches same_weights on none none' = record {
     last = last;
     rounds_on = on;
     values = refl;

@@ -2,7 +2,7 @@
 use Rattle.std.proofs.Common.{◌≡◌, ℕ, ◌+◌, ◌-◌, ◌*◌, ◌<◌, ◌≤◌, Bool, true, false, ◌&&◌, leb, List, [], ◌∷◌, length, get_or, drop, sym, ap, ◌∙◌, le_trans, le_refl, arith}
 use Rattle.std.proofs.lemmas.List.{at_drop_more}
 use Rattle.std.proofs.lemmas.Bool.{lt-leb, and_right, and_left}
-use Rattle.reader.specs.Format.{every, digit, read_on, value}
+use Rattle.reader.specs.Format.{every, digit, read_on}
 
 module _ (test : ℕ → Bool) (xs : List ℕ) (i : ℕ) (within : i < length xs) where
   every_here : every test (drop i xs) ≡ (test (get_or xs i 0) && every test (drop (i + 1) xs))

@@ -74,12 +74,12 @@ module _ (names : Legend) (good : GoodNames names) (b : Branch) (fits : GoodBran
       places = ap (λ w. four (numbers_of (met legend name) w)) named ∙ ap (λ ns. four (drop 1 ns)) back.numbers ∙ sym fits.places
 
   -- the line's branch, in front of what the lines behind it give
-  pub line-back :
+  pub line_back :
       (line byte : ℕ) (rest : List ℕ) →
       lines_feed legend line byte (pieces line_end (written_line names b ++ line_end ∷ rest))
       ≡ line_feed None (record { branch = b; line = line; byte = byte })
       (lines_feed (take (seen_after seen (mentions b)) names) (line + 1) (byte + length (written_line names b) + 1) (pieces line_end rest))
-  line-back line byte rest =
+  line_back line byte rest =
       let l = written_line names b in
       let words = line_pieces names b fits good in
       ap (lines_feed legend line byte) (piece_before line_end l rest (line_above names b fits good))

@@ -88,18 +88,18 @@ length-numbers legend [] = refl
 length-numbers legend (w ∷ ws) = ap suc (length-numbers (met legend w) ws)
 
 module _ (legend : Legend) (n s l t c : List ℕ) (k : Calls) (numbered : counted k ≡ numbers_of (met legend n) (called c)) where
-  pub branch-is :
+  pub branch_is :
       (routine seconds light turn : ℕ) →
       routine ≡ number_of legend n →
       seconds ≡ value s →
       light ≡ value l →
       turn ≡ value t →
       ◌≡◌ {A = Branch} (record { routine = routine; count = k.count; calls = k.places; seconds = seconds; light = light; turn = turn }) (line_branch legend (n ∷ s ∷ l ∷ t ∷ c ∷ []))
-  branch-is routine seconds light turn er es el et =
+  branch_is _ _ _ _ er es el et =
       let count = counted_length k ∙ ap length numbered ∙ length-numbers (met legend n) (called c) in
       let places = k.padded ∙ ap four numbered in
       λ i. record { routine = er i; count = count i; calls = places i; seconds = es i; light = el i; turn = et i }
 
 -- a fault that is handed on
 pub handed_on : (legend : Legend) (ws ws' : List (List ℕ)) (place : Place) (r : Result (Branch × Known) Fault) (x fault : Fault) → ws ≡ ws' → r ≡ Err x → x ≡ fault → Reads legend ws' place (Err fault) → Reads legend ws place r
-handed_on legend ws ws' place r x fault same was is h = subst₂ (λ v q. Reads legend v place q) (sym same) (sym (was ∙ ap Err is)) h
+handed_on legend vs vs' place r x fault same was is h = subst₂ (λ v q. Reads legend v place q) (sym same) (sym (was ∙ ap Err is)) h

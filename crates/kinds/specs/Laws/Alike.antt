@@ -1,6 +1,5 @@
 -- Bounded numbers are equal where their values are.
 use Rattle.std.specs.Prelude.{◌≡◌, ℕ, ◌≤◌}
-use Rattle.std.proofs.Common.{ap}
 use mathlib.Core.HLevel.{is_prop→PathP}
 use Rattle.std.proofs.Math.Bridge.{le_prop}
 use Rattle.kinds.specs.declared.weights.Bounded.{Bounded}

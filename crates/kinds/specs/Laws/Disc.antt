@@ -1,13 +1,12 @@
 -- The disc keeps the laws of a kind: sets are equal where they have the same stations.
-use Rattle.std.specs.Prelude.{◌≡◌, ℕ, zero as none, suc, ◌+◌, ◌-◌, ◌*◌, ◌/◌, ◌%◌, ◌^◌, ◌<◌, ◌≤◌, Bool, true, false, cond, not, ◌&&◌, ◌||◌, ◌⊎◌, ◌==◌, ◌≢◌, nat_eq, refl}
-use Rattle.std.proofs.Common.{sym, ap, ap₂, subst, ◌∙◌, inl, inr, arith}
+use Rattle.std.specs.Prelude.{◌≡◌, ℕ, suc, ◌+◌, ◌%◌, ◌^◌, ◌<◌, Bool, true, false, cond, ◌&&◌, ◌||◌, ◌⊎◌, ◌==◌, ◌≢◌, nat_eq, refl}
+use Rattle.std.proofs.Common.{sym, ap, subst, ◌∙◌, inl, inr, arith}
 use mathlib.Core.HLevel.{is_prop→PathP}
 use Rattle.std.proofs.Math.Bridge.{le_prop}
 use Rattle.std.proofs.lemmas.Bool.{false≢true, or_cases, or_left, or_right, cases_eq, and_parts, and_from, eqb-true, eq-eqb, ne_eqb}
-use Rattle.semiring.specs.Algebra.{Algebra, Laws, power, powers}
-use Rattle.kinds.specs.Bits.{bits_of, any}
+use Rattle.kinds.specs.Bits.{any}
 use Rattle.kinds.specs.declared.weights.Disc.{Disc}
-use Rattle.kinds.specs.Disc.{has, stations, zero, only, one, plus, meets, times, divides, greatest, divisor, multiples, star}
+use Rattle.kinds.specs.Disc.{has, stations, zero, one, plus, meets, times}
 use Rattle.kinds.specs.Stations.{Met}
 use Rattle.kinds.specs.Laws.Bits.{bit, bits_same, bit_of, any_gives, gives_any}
 

@@ -1,7 +1,7 @@
 -- Least seconds keep the laws of a kind. Read never as 65,535: then the sum is the smaller number,
 -- and the product the sum of the numbers, held at 65,535.
 use Rattle.std.specs.Prelude.{◌≡◌, ℕ, ◌+◌, ◌≤◌, min, Bool, true, false, cond, nat_lt, refl}
-use Rattle.std.proofs.Common.{sym, ap, arith, ltb-true, ltb-false}
+use Rattle.std.proofs.Common.{ap, arith, ltb-true, ltb-false}
 use Rattle.semiring.specs.Algebra.{Algebra, Laws}
 use Rattle.kinds.specs.declared.weights.Least.{Least}
 use Rattle.kinds.specs.declared.weights.Least.TheVariants.{Seconds, Never}

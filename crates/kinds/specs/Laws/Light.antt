@@ -1,8 +1,7 @@
 -- Light keeps the laws of a kind.
-use Rattle.std.specs.Prelude.{◌≡◌, ℕ}
+use Rattle.std.specs.Prelude.{◌≡◌}
 use Rattle.std.proofs.Common.{ap, arith}
-use Rattle.semiring.specs.Algebra.{Algebra, Laws, powers}
-use Rattle.kinds.specs.declared.weights.Bounded.{Bounded}
+use Rattle.semiring.specs.Algebra.{Algebra, Laws}
 use Rattle.kinds.specs.declared.weights.Light.{Light}
 use Rattle.kinds.specs.Light.{zero, one, plus, times, star}
 use Rattle.kinds.specs.Laws.Alike.{alike}

@@ -1,12 +1,11 @@
 -- Most seconds keep the laws of a kind. The star of a seconds, a over 0, is reached with 65,535
 -- powers: a^0 + .. + a^k is k times a seconds, held at 65,535.
-use Rattle.std.specs.Prelude.{◌≡◌, ℕ, zero as none, suc, ◌+◌, ◌*◌, ◌<◌, ◌≤◌, min, Bool, true, false, cond, nat_lt, refl}
+use Rattle.std.specs.Prelude.{◌≡◌, ℕ, zero as none, suc, ◌*◌, ◌≤◌, Bool, true, false, cond, nat_lt, refl}
 use Rattle.std.proofs.Common.{sym, ap, ap₂, ◌∙◌, mul-le-mul_left, suc-mul, arith, ltb-true, ltb-false}
 use Rattle.semiring.specs.Algebra.{Algebra, Laws, power, powers}
 use Rattle.kinds.specs.declared.weights.Bounded.{Bounded}
 use Rattle.kinds.specs.declared.weights.Most.{Most}
 use Rattle.kinds.specs.declared.weights.Most.TheVariants.{Seconds, Never}
-use Rattle.kinds.specs.Bounded.{held}
 use Rattle.kinds.specs.Most.{seconds, zero, one, plus, times, star}
 use Rattle.kinds.specs.Laws.Alike.{alike}
 

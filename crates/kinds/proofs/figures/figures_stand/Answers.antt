@@ -1,6 +1,6 @@
 use Rattle.std.proofs.Common.{refl, ap}
 use Rattle.kinds.specs.Bits.{any}
-use Rattle.kinds.specs.Disc.{has, stations, greatest}
+use Rattle.kinds.specs.Disc.{stations, greatest}
 use Rattle.kinds.specs.declared.weights.Most.TheVariants.{Seconds}
 use Rattle.kinds.specs.Laws.Alike.{alike}
 use Rattle.kinds.specs.Laws.Disc.{same_bits}

@@ -1,4 +1,4 @@
-use Rattle.std.proofs.Common.{◌+◌, ◌<◌, ◌≤◌, refl, ◌∙◌, arith}
+use Rattle.std.proofs.Common.{refl, ◌∙◌, arith}
 use Rattle.linear.proofs.Steps.{passed_none, passed_turn}
 use Rattle.linear.proofs.closure.pass.Goals as goal
 

@@ -1,4 +1,4 @@
-use Rattle.std.proofs.Common.{◌≡◌, ◌≤◌, length}
+use Rattle.std.proofs.Common.{◌≡◌}
 use Rattle.linear.specs.Rows.{Square}
 use Rattle.linear.specs.Removal.{Removed}
 use Rattle.linear.proofs.elimination.remove_all.Given as goal

@@ -4,7 +4,7 @@ use Rattle.reader.specs.declared.refusal.Refusal.TheVariants.{Words}
 use Rattle.reader.specs.Known.{known}
 use Rattle.reader.specs.Text.{line_refusal, line_branch, line_met}
 use Rattle.reader.specs.Row.{row_words, Called}
-use Rattle.reader.proofs.Rows.{not_five, bad_routine, bad_seconds, bad_light, bad_turn, bad_calls, good_line, branch-is, handed_on}
+use Rattle.reader.proofs.Rows.{not_five, bad_routine, bad_seconds, bad_light, bad_turn, bad_calls, good_line, branch_is, handed_on}
 use Rattle.reader.proofs.line.read.read_line.Goals as goal
 
 pub returns-in_default : goal.returns-in_default
@@ -73,6 +73,6 @@ returns c =
     let good = good_line before w.name.now w.seconds.now w.light.now w.turn.now w.calls.now k.0 k.1 s.0 l.0 t.0 h.0 h.1 in
     let same = c.in-Some.ensures.0 in (
       ap (line_refusal before) same ∙ good,
-      branch-is before w.name.now w.seconds.now w.light.now w.turn.now w.calls.now calls h.2 _ _ _ _ k.2 s.1 l.1 t.1 ∙ ap (line_branch before) (sym same),
+      branch_is before w.name.now w.seconds.now w.light.now w.turn.now w.calls.now calls h.2 _ _ _ _ k.2 s.1 l.1 t.1 ∙ ap (line_branch before) (sym same),
       h.3 ∙ ap (line_met before) (sym same),
     )
