@@ -1,7 +1,7 @@
 -- What the calls of a draft promise: enter and strike. Each is said by cases of the answer, over
 -- the draft and both slices before and after.
 use Rattle.std.specs.Prelude.{◌≡◌, ℕ, suc, ◌+◌, ◌-◌, ◌<◌, ◌≤◌, max, List, [], ◌∷◌, ◌++◌, length, take, drop, Ok, Err, Result, slice_set}
-use Rattle.std.specs.List.{AllByRecursion as All, between}
+use Rattle.std.specs.List.{AllByRecursion, between}
 use Rattle.script.specs.declared.branch.Branch.{Branch}
 use Rattle.newton.specs.declared.refusal.Refusal.{Refusal}
 use Rattle.newton.specs.declared.refusal.Refusal.TheVariants.{Calls, Routines, Range, Room, Slices, Place}
@@ -26,7 +26,7 @@ pub record Same (d d' : Draft) : Type 0 where
 abbrev pub enter_questions : {K : Type 0} → Draft → Branch → List Branch → List K → List Question
 enter_questions d b branches weights =
     (Calls, b.count ≤ 4)
-    ∷ (Routines, All (λ m. m < 32) (named b))
+    ∷ (Routines, AllByRecursion (λ m. m < 32) (named b))
     ∷ (Range, (b.seconds ≤ 3600) × (b.turn ≤ 23))
     ∷ (Room, (d.held < 200) × (d.held < length branches) × (d.held < length weights))
     ∷ []

@@ -1,7 +1,7 @@
 -- What the calls of a sheet at work promise, and what is read of a settled one. Each is said by
 -- cases of the answer, over the sheet and all slices before and after.
 use Rattle.std.specs.Prelude.{◌≡◌, ℕ, zero, suc, ◌+◌, ◌*◌, ◌<◌, ◌≤◌, ◌⊎◌, List, [], ◌∷◌, ◌++◌, length, drop, Ok, Err, Result, slice_index_or}
-use Rattle.std.specs.List.{AllByRecursion as All}
+use Rattle.std.specs.List.{AllByRecursion}
 use Rattle.semiring.specs.Algebra.{Algebra}
 use Rattle.script.specs.declared.branch.Branch.{Branch}
 use Rattle.linear.specs.System.{entry_at, Least}
@@ -19,7 +19,7 @@ use Rattle.newton.specs.Drafting.{named, Same}
 
 -- a branch that has at most 4 calls and names routines of the sheet only
 abbrev pub Sound : ℕ → Branch → Type 0
-Sound n b = (b.count ≤ 4) × All (λ m. m < n) (named b)
+Sound n b = (b.count ≤ 4) × AllByRecursion (λ m. m < n) (named b)
 
 -- every held branch is sound
 abbrev pub AllSound : ℕ → ℕ → List Branch → Type 0

@@ -1,14 +1,14 @@
 -- A text of bytes above the separator is one piece, and the first piece where the separator stands
 -- behind it.
 use Rattle.std.proofs.Common.{◌≡◌, ℕ, ◌<◌, ◌≤◌, List, [], ◌∷◌, ◌++◌, refl, ap, ◌∙◌, arith}
-use Rattle.std.specs.List.{AllByRecursion as All}
+use Rattle.std.specs.List.{AllByRecursion}
 use Rattle.std.proofs.ByRecursion.{All-weaker, All-append, All-get_or}
 use Rattle.reader.specs.Format.{pieces, onto}
 use Rattle.reader.proofs.Pieces.{pieces_onto, pieces_cut, one_piece}
 
 -- every byte is above a bound
 abbrev pub Above : ℕ → List ℕ → Type 0
-Above low xs = All (λ b. low < b) xs
+Above low xs = AllByRecursion (λ b. low < b) xs
 
 pub above_less : (low high : ℕ) (xs : List ℕ) → low ≤ high → Above high xs → Above low xs
 above_less low high xs less above = All-weaker (λ b. high < b) (λ b. low < b) (λ b h. omega arith) xs above

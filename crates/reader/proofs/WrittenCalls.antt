@@ -1,7 +1,7 @@
 -- A calls word that is written from numbers: its names are those of the numbers, in order.
 use Rattle.std.proofs.Common.{◌≡◌, ℕ, ◌<◌, ◌≤◌, true, leb, List, [], ◌∷◌, map, length, get_or, refl, ap, ◌∙◌, subst, append-nil, arith}
 use lib.ListN.{length-map}
-use Rattle.std.specs.List.{AllByRecursion as All}
+use Rattle.std.specs.List.{AllByRecursion}
 use Rattle.std.proofs.lemmas.Bool.{and_from, le-leb}
 use Rattle.reader.specs.Format.{pieces, is_name, all_names, called, is_calls, space, plus_sign}
 use Rattle.script.specs.Legend.{Legend}
@@ -12,7 +12,7 @@ use Rattle.reader.proofs.WrittenWords.{name_above, name_first}
 
 -- numbers that have names
 abbrev pub HaveNames : Legend → List ℕ → Type 0
-HaveNames names ms = All (λ m. m < length names) ms
+HaveNames names ms = AllByRecursion (λ m. m < length names) ms
 
 module _ (names : Legend) (good : GoodNames names) where
   pub name_of_above : (low m : ℕ) → low ≤ 47 → m < length names → Above low (name_of names m)

@@ -1,7 +1,7 @@
 // The calls of a draft.
 ghost use Rattle.std.specs.Prelude.{◌≡◌, ◌<◌, ◌≤◌, true, false, [], length, None, OnOk};
 ghost use Rattle.newton.specs.Loading.{Taken, Loads};
-ghost use Rattle.std.specs.List.{AllByRecursion as All};
+ghost use Rattle.std.specs.List.{AllByRecursion};
 ghost use Rattle.newton.specs.Questions.{Asked};
 ghost use Rattle.newton.specs.Drafting.{named, above, enter_questions, Entered, strike_questions, shifted, Struck};
 
@@ -15,8 +15,8 @@ use semiring::Semiring;
 
 // Whether every number lies below a bound.
 fn all_below(numbers: &[u8], top: u8) -> bool
-    ensures yes { result ≡ true → All (λ m. m < top) numbers.now }
-    ensures no { result ≡ false → All (λ m. m < top) numbers.now → ⊥ }
+    ensures yes { result ≡ true → AllByRecursion (λ m. m < top) numbers.now }
+    ensures no { result ≡ false → AllByRecursion (λ m. m < top) numbers.now → ⊥ }
 {
     for number in numbers {
         if *number >= top {
@@ -28,8 +28,8 @@ fn all_below(numbers: &[u8], top: u8) -> bool
 
 // Whether a branch names only routines below a bound.
 pub(super) fn names_below(branch: &Branch, top: u8) -> bool
-    ensures yes { result ≡ true → All (λ m. m < top) (named branch.now) }
-    ensures no { result ≡ false → All (λ m. m < top) (named branch.now) → ⊥ }
+    ensures yes { result ≡ true → AllByRecursion (λ m. m < top) (named branch.now) }
+    ensures no { result ≡ false → AllByRecursion (λ m. m < top) (named branch.now) → ⊥ }
 {
     branch.routine < top && all_below(branch.counted_calls(), top)
 }

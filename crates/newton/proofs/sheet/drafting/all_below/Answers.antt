@@ -1,5 +1,5 @@
 use Rattle.std.proofs.Common.{◌<◌, subst, arith}
-use Rattle.std.specs.List.{AllByRecursion as All}
+use Rattle.std.specs.List.{AllByRecursion}
 use Rattle.std.proofs.ByRecursion.{All-get_or, All-more}
 use Rattle.std.proofs.lemmas.List.{take_all}
 use Rattle.std.proofs.lemmas.Bool.{true≢false, false≢true}
@@ -16,6 +16,6 @@ loop-number-preserved c = All-more (λ m. m < c.args.top) c.args.numbers.now c.l
 
 pub returns : goal.returns
 returns c = record {
-  yes = λ e. subst (All (λ m. m < c.args.top)) (take_all c.loop-number.number-index c.args.numbers.now c.loop-number-test.false) c.loop-number.invariant;
+  yes = λ e. subst (AllByRecursion (λ m. m < c.args.top)) (take_all c.loop-number.number-index c.args.numbers.now c.loop-number-test.false) c.loop-number.invariant;
   no = λ e. absurd (true≢false e);
 }
