@@ -50,7 +50,7 @@ fn ready<K: Semiring>(
     grid: &[K],
 ) -> Result<(), Refusal>
     requires { n ≤ 32 }
-    ensures { Asked (slice_questions K.algebra n held (record { branches = branches.entry.now; weights = weights.now; values = values.now; column = column.now; grid = grid.now })) result }
+    ensures { Asked (slice_questions K.algebra n held (record { branches = branches.now; weights = weights.now; values = values.now; column = column.now; grid = grid.now })) result }
 {
     if branches.len() < held || weights.len() < held {
         return Err(Refusal::Slices);
@@ -75,7 +75,7 @@ fn due<K: Semiring>(
     grid: &[K],
 ) -> Result<(), Refusal>
     requires { n ≤ 32 }
-    ensures { Asked (due_questions K.algebra n held (record { branches = branches.entry.now; weights = weights.now; values = values.now; column = column.now; grid = grid.now })) result }
+    ensures { Asked (due_questions K.algebra n held (record { branches = branches.now; weights = weights.now; values = values.now; column = column.now; grid = grid.now })) result }
 {
     ready(n, held, branches, weights, values, column, grid)?;
     if solves(n, held, branches, weights, values) {
@@ -94,7 +94,7 @@ impl Draft {
         column: &mut [K],
         grid: &mut [K],
     ) -> Result<Work, (Draft, Refusal)>
-        ensures { Started K.algebra self (record { branches = branches.entry.now; weights = weights.now; values = values.old; column = column.old; grid = grid.old }) (record { branches = branches.entry.now; weights = weights.now; values = values.new; column = column.new; grid = grid.new }) result }
+        ensures { Started K.algebra self (record { branches = branches.now; weights = weights.now; values = values.old; column = column.old; grid = grid.old }) (record { branches = branches.now; weights = weights.now; values = values.new; column = column.new; grid = grid.new }) result }
     {
         let n = self.n;
         let held = self.held;
@@ -143,7 +143,7 @@ fn step<K: Semiring, S: Solver>(
     requires few { n ≤ 32 }
     requires script { (held ≤ length branches.now) × (held ≤ length weights.now) }
     requires room { (n ≤ length values.old) × ((n ≤ length column.old) × (n * n ≤ length grid.old)) }
-    ensures step { NewtonStep K.Semiring.algebra n held (record { branches = branches.entry.now; weights = weights.now; values = values.old; column = column.old; grid = grid.old }) (record { branches = branches.entry.now; weights = weights.now; values = values.new; column = column.new; grid = grid.new }) }
+    ensures step { NewtonStep K.Semiring.algebra n held (record { branches = branches.now; weights = weights.now; values = values.old; column = column.old; grid = grid.old }) (record { branches = branches.now; weights = weights.now; values = values.new; column = column.new; grid = grid.new }) }
     ensures calls { S.Solver.calls solver.new ≡ one_more (S.Solver.calls solver.old) }
 {
     image(n, held, branches, weights, values, column);
@@ -171,7 +171,7 @@ fn make_rounds<K: Semiring, S: Solver>(
     requires script { (held ≤ length branches.now) × (held ≤ length weights.now) }
     requires room { (n ≤ length values.old) × ((n ≤ length column.old) × (n * n ≤ length grid.old)) }
     ensures bound { result.0 ≤ n }
-    ensures rounds { RoundsOn K.Semiring.algebra n held rounds (record { branches = branches.entry.now; weights = weights.now; values = values.old; column = column.old; grid = grid.old }) (S.Solver.calls solver.old) result.0 (record { branches = branches.entry.now; weights = weights.now; values = values.new; column = column.new; grid = grid.new }) (S.Solver.calls solver.new) }
+    ensures rounds { RoundsOn K.Semiring.algebra n held rounds (record { branches = branches.now; weights = weights.now; values = values.old; column = column.old; grid = grid.old }) (S.Solver.calls solver.old) result.0 (record { branches = branches.now; weights = weights.now; values = values.new; column = column.new; grid = grid.new }) (S.Solver.calls solver.new) }
     ensures solved { result.1 ≡ true → Solves K.Semiring.algebra n (rules_of K.Semiring.algebra held branches.now weights.now) (entry_at K.Semiring.algebra values.new) }
     ensures due { result.1 ≡ false → (Solves K.Semiring.algebra n (rules_of K.Semiring.algebra held branches.now weights.now) (entry_at K.Semiring.algebra values.new) → ⊥) × (result.0 ≡ n) }
 {
@@ -197,7 +197,7 @@ impl Work {
         column: &mut [K],
         grid: &mut [K],
     ) -> Result<(), Refusal>
-        ensures { Rounded K.Semiring.algebra self.old (record { branches = branches.entry.now; weights = weights.now; values = values.old; column = column.old; grid = grid.old }) (S.Solver.calls solver.old) self.new (record { branches = branches.entry.now; weights = weights.now; values = values.new; column = column.new; grid = grid.new }) (S.Solver.calls solver.new) result }
+        ensures { Rounded K.Semiring.algebra self.old (record { branches = branches.now; weights = weights.now; values = values.old; column = column.old; grid = grid.old }) (S.Solver.calls solver.old) self.new (record { branches = branches.now; weights = weights.now; values = values.new; column = column.new; grid = grid.new }) (S.Solver.calls solver.new) result }
     {
         let n = self.n;
         let held = self.held;
@@ -219,7 +219,7 @@ impl Work {
         column: &mut [K],
         grid: &mut [K],
     ) -> Result<(), Refusal>
-        ensures { Climbed K.algebra self.now (record { branches = branches.entry.now; weights = weights.now; values = values.old; column = column.old; grid = grid.old }) (record { branches = branches.entry.now; weights = weights.now; values = values.new; column = column.new; grid = grid.new }) result }
+        ensures { Climbed K.algebra self.now (record { branches = branches.now; weights = weights.now; values = values.old; column = column.old; grid = grid.old }) (record { branches = branches.now; weights = weights.now; values = values.new; column = column.new; grid = grid.new }) result }
     {
         let n = self.n;
         let held = self.held;
@@ -241,7 +241,7 @@ impl Work {
         column: &mut [K],
         grid: &mut [K],
     ) -> Result<Settled, (Work, Refusal)>
-        ensures { SettlesBy K.Semiring.algebra self (record { branches = branches.entry.now; weights = weights.now; values = values.old; column = column.old; grid = grid.old }) (S.Solver.calls solver.old) (record { branches = branches.entry.now; weights = weights.now; values = values.new; column = column.new; grid = grid.new }) (S.Solver.calls solver.new) result }
+        ensures { SettlesBy K.Semiring.algebra self (record { branches = branches.now; weights = weights.now; values = values.old; column = column.old; grid = grid.old }) (S.Solver.calls solver.old) (record { branches = branches.now; weights = weights.now; values = values.new; column = column.new; grid = grid.new }) (S.Solver.calls solver.new) result }
     {
         let n = self.n;
         let held = self.held;
@@ -278,7 +278,7 @@ impl Work {
         column: &[K],
         grid: &[K],
     ) -> Result<Settled, (Work, Refusal)>
-        ensures { Closed K.algebra self (record { branches = branches.entry.now; weights = weights.now; values = values.now; column = column.now; grid = grid.now }) result }
+        ensures { Closed K.algebra self (record { branches = branches.now; weights = weights.now; values = values.now; column = column.now; grid = grid.now }) result }
     {
         let n = self.n;
         let held = self.held;
