@@ -1,5 +1,6 @@
 // Possible as a kind: a run is possible where each of its parts is, a routine where one of its runs
 // is.
+ghost use Rattle.std.proofs.Common.{rules};
 ghost use Rattle.equations.specs.Possible.{possible};
 
 use crate::possible::Possible;
@@ -7,6 +8,8 @@ use semiring::Semiring;
 
 impl Semiring for Possible {
     ghost algebra = { possible };
+
+    ghost equal = { record { sound = Prim.search rules; reflexive = Prim.search rules } };
 
     fn zero() -> Possible {
         Possible { yes: false }
@@ -30,9 +33,5 @@ impl Semiring for Possible {
 
     fn star(self) -> Possible {
         Possible { yes: true }
-    }
-
-    fn same(self, other: Possible) -> bool {
-        self.yes == other.yes
     }
 }

@@ -5,6 +5,8 @@ ghost use Rattle.std.specs.Fmt.{digit_glyph};
 ghost use Rattle.kinds.specs.Disc.{has, only, times, turned, divisor, entry, table, weight, text};
 ghost use Rattle.kinds.specs.Stations.{Stations};
 ghost use Rattle.kinds.specs.Laws.Star.{disc_algebra};
+ghost use Rattle.std.proofs.Common.{rules, eqb-true};
+ghost use Rattle.kinds.specs.Laws.Disc.{same_bits};
 
 use crate::weights::{Disc, Multiples};
 use script::branch::Branch;
@@ -161,6 +163,8 @@ impl Disc {
 impl Semiring for Disc {
     ghost algebra = { disc_algebra };
 
+    ghost equal = { record { sound = λ a b t. same_bits a b (eqb-true _ _ t); reflexive = Prim.search rules } };
+
     fn zero() -> Disc {
         Disc { bits: 0 }
     }
@@ -185,10 +189,6 @@ impl Semiring for Disc {
         Disc {
             bits: self.closing().bits,
         }
-    }
-
-    fn same(self, other: Disc) -> bool {
-        self.bits == other.bits
     }
 }
 

@@ -2,6 +2,10 @@
 ghost use Rattle.std.specs.Prelude.{◌≡◌, Some};
 ghost use Rattle.kinds.specs.Least.{seconds, weight, text};
 ghost use Rattle.kinds.specs.Laws.Least.{least_algebra};
+ghost use Rattle.std.proofs.Common.{rules, ap, refl, eqb-true};
+ghost use Rattle.std.proofs.lemmas.Bool.{false≢true};
+ghost use Rattle.kinds.specs.Laws.Alike.{alike};
+ghost use Rattle.kinds.specs.declared.weights.Least.TheVariants.{Seconds, Never};
 
 use crate::weights::{Bounded, Least};
 use script::branch::Branch;
@@ -25,6 +29,14 @@ impl Least {
 
 impl Semiring for Least {
     ghost algebra = { least_algebra };
+
+    ghost equal = { record {
+      sound = elim [
+        | Seconds x ↦ elim [ Seconds y ↦ λ t. ap Seconds (alike x y (eqb-true _ _ t)) | Never ↦ λ t. absurd (false≢true t) ]
+        | Never ↦ elim [ Seconds y ↦ λ t. absurd (false≢true t) | Never ↦ λ t. refl ]
+      ];
+      reflexive = Prim.search rules;
+    } };
 
     fn zero() -> Least {
         Least::Never
@@ -56,19 +68,6 @@ impl Semiring for Least {
 
     fn star(self) -> Least {
         Least::one()
-    }
-
-    fn same(self, other: Least) -> bool {
-        match self {
-            Least::Seconds(a) => match other {
-                Least::Seconds(b) => a.same(b),
-                Least::Never => false,
-            },
-            Least::Never => match other {
-                Least::Seconds(_) => false,
-                Least::Never => true,
-            },
-        }
     }
 }
 

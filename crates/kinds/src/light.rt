@@ -2,6 +2,9 @@
 ghost use Rattle.std.specs.Prelude.{◌≡◌, Some};
 ghost use Rattle.kinds.specs.Light.{light, weight, text};
 ghost use Rattle.kinds.specs.Laws.Light.{light_algebra};
+ghost use Rattle.std.proofs.Common.{rules, ap, eqb-true};
+ghost use Rattle.kinds.specs.Laws.Alike.{alike};
+ghost use Rattle.kinds.specs.declared.weights.Bounded.{Bounded as Held};
 
 use crate::weights::{Bounded, Light};
 use script::branch::Branch;
@@ -23,6 +26,8 @@ impl Light {
 
 impl Semiring for Light {
     ghost algebra = { light_algebra };
+
+    ghost equal = { record { sound = λ a b t. ap (λ (l : Held 65535). record { level = l }) (alike a.level b.level (eqb-true _ _ t)); reflexive = Prim.search rules } };
 
     fn zero() -> Light {
         Light::of(0)
@@ -46,10 +51,6 @@ impl Semiring for Light {
 
     fn star(self) -> Light {
         Light::one()
-    }
-
-    fn same(self, other: Light) -> bool {
-        self.level.same(other.level)
     }
 }
 

@@ -2,6 +2,10 @@
 ghost use Rattle.std.specs.Prelude.{◌≡◌, Some};
 ghost use Rattle.kinds.specs.Most.{seconds, weight, text};
 ghost use Rattle.kinds.specs.Laws.Most.{most_algebra};
+ghost use Rattle.std.proofs.Common.{rules, ap, refl, eqb-true};
+ghost use Rattle.std.proofs.lemmas.Bool.{false≢true};
+ghost use Rattle.kinds.specs.Laws.Alike.{alike};
+ghost use Rattle.kinds.specs.declared.weights.Most.TheVariants.{Seconds, Never};
 
 use crate::weights::{Bounded, Most};
 use script::branch::Branch;
@@ -21,6 +25,14 @@ impl Most {
 
 impl Semiring for Most {
     ghost algebra = { most_algebra };
+
+    ghost equal = { record {
+      sound = elim [
+        | Never ↦ elim [ Seconds y ↦ λ t. absurd (false≢true t) | Never ↦ λ t. refl ]
+        | Seconds x ↦ elim [ Seconds y ↦ λ t. ap Seconds (alike x y (eqb-true _ _ t)) | Never ↦ λ t. absurd (false≢true t) ]
+      ];
+      reflexive = Prim.search rules;
+    } };
 
     fn zero() -> Most {
         Most::Never
@@ -54,19 +66,6 @@ impl Semiring for Most {
         match self {
             Most::Seconds(a) if a.value > 0 => Most::after(65535),
             _ => Most::one(),
-        }
-    }
-
-    fn same(self, other: Most) -> bool {
-        match self {
-            Most::Seconds(a) => match other {
-                Most::Seconds(b) => a.same(b),
-                Most::Never => false,
-            },
-            Most::Never => match other {
-                Most::Seconds(_) => false,
-                Most::Never => true,
-            },
         }
     }
 }

@@ -1,7 +1,7 @@
 -- What a kind of weight is: two fixed weights, a sum, a product and a star, with the laws that
 -- every kind proves. In the field's words, a commutative idempotent semiring in which every star
 -- is a finite sum of powers.
-use Rattle.std.specs.Prelude.{◌≡◌, ℕ, zero, suc}
+use Rattle.std.specs.Prelude.{◌≡◌, ℕ, zero, suc, Bool, true}
 
 -- a^0 is one, a^(i+1) is a × a^i.
 abbrev pub power : {K : Type 0} → K → (K → K → K) → K → ℕ → K
@@ -39,3 +39,8 @@ pub record Algebra (K : Type 0) : Type 0 where
 -- a lies under b where a + b is b.
 abbrev pub Under : {K : Type 0} → Algebra K → K → K → Type 0
 Under k a b = k.plus a b ≡ b
+
+-- An equality that says yes of a weight and itself, and of no two others.
+pub record IsIdentity {K : Type 0} (eq : K → K → Bool) : Type 0 where
+  pub sound : (a b : K) → eq a b ≡ true → a ≡ b
+  pub reflexive : (a : K) → eq a a ≡ true

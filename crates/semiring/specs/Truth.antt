@@ -1,5 +1,4 @@
--- The smallest kind, as an example: the two truth values, with or for the sum and and for the
--- product. The tests run the public functions on it.
+-- The smallest kind: the two truth values, with or for the sum and and for the product.
 use Rattle.std.specs.Prelude.{Bool, true, false, ◌&&◌, ◌||◌, refl}
 use Rattle.semiring.specs.Algebra.{Algebra, Laws}
 

@@ -3,14 +3,14 @@
 #![tactic(auto)]
 
 ghost use Rattle.std.specs.Prelude.{◌≡◌, true, false, ◌≢◌};
-ghost use Rattle.semiring.specs.Algebra.{Algebra, Under};
+ghost use Rattle.semiring.specs.Algebra.{Algebra, Under, IsIdentity};
 ghost use Rattle.semiring.specs.Order.{OrderLaws};
 ghost use Rattle.semiring.specs.Equation.{LeastSolution, StarLaws};
 ghost use Rattle.semiring.specs.Sums.{total, LeastAbove};
 
 // A commutative idempotent semiring in which every star is a finite sum of powers. No call
 // refuses.
-pub trait Semiring: Copy {
+pub trait Semiring: Copy + Eq {
     // The operations, with the laws that every implementation proves.
     ghost algebra: { Algebra Self };
 
@@ -35,7 +35,13 @@ pub trait Semiring: Copy {
     // Yes exactly where the two weights are equal.
     fn same(self, other: Self) -> bool
         ensures yes { result ≡ true → self ≡ other }
-        ensures no { result ≡ false → self ≢ other };
+        ensures no { result ≡ false → self ≢ other }
+    {
+        self == other
+    }
+
+    // What `==` answers: whether two weights are one.
+    ghost equal: { IsIdentity Self.eq };
 }
 
 // Yes exactly where a lies under b.
@@ -77,3 +83,4 @@ pub fn solve_one<K: Semiring>(a: K, b: K) -> K
 
 #[cfg(test)]
 mod tests;
+mod truth;

@@ -1,36 +1,5 @@
-// The interface met by the smallest kind: the two truth values, or for the sum, and for the
-// product.
-ghost use Rattle.semiring.specs.Truth.{truth};
-
-use crate::{Semiring, lies_under, solve_one, total};
-
-impl Semiring for bool {
-    ghost algebra = { truth };
-
-    fn zero() -> bool {
-        false
-    }
-
-    fn one() -> bool {
-        true
-    }
-
-    fn sum(self, other: bool) -> bool {
-        self | other
-    }
-
-    fn product(self, other: bool) -> bool {
-        self & other
-    }
-
-    fn star(self) -> bool {
-        true
-    }
-
-    fn same(self, other: bool) -> bool {
-        self == other
-    }
-}
+// The public functions at the smallest kind, the truth values.
+use crate::{lies_under, solve_one, total};
 
 #[test]
 fn false_lies_under_true(rt: HostRuntime) {
