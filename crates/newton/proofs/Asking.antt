@@ -1,6 +1,6 @@
 -- A refusal stays one when more questions follow.
 use Rattle.std.proofs.Common.{List, [], ◌∷◌, ◌++◌, inl, inr}
-use Rattle.newton.specs.declared.refusal.Refusal.{Refusal}
+use Rattle.script.specs.declared.refusal.sheet.SheetRefusal.{SheetRefusal as Refusal}
 use Rattle.newton.specs.Questions.{Question, Refused}
 
 pub refused_more : (qs rs : List Question) (why : Refusal) → Refused qs why → Refused (qs ++ rs) why

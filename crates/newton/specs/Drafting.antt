@@ -3,8 +3,8 @@
 use Rattle.std.specs.Prelude.{◌≡◌, ℕ, suc, ◌+◌, ◌-◌, ◌<◌, ◌≤◌, max, List, [], ◌∷◌, ◌++◌, length, take, drop, Ok, Err, Result, slice_set}
 use Rattle.std.specs.List.{AllByRecursion, between}
 use Rattle.script.specs.declared.branch.Branch.{Branch}
-use Rattle.newton.specs.declared.refusal.Refusal.{Refusal}
-use Rattle.newton.specs.declared.refusal.Refusal.TheVariants.{Calls, Routines, Range, Room, Slices, Place}
+use Rattle.script.specs.declared.refusal.sheet.SheetRefusal.{SheetRefusal as Refusal}
+use Rattle.script.specs.declared.refusal.sheet.SheetRefusal.TheVariants.{Calls, Routines, Range, Room, Slices, Place}
 use Rattle.newton.specs.declared.sheet.Draft.{Draft}
 use Rattle.newton.specs.Questions.{Question, Passed, Refused}
 

@@ -5,16 +5,16 @@ use Rattle.std.specs.Prelude.{◌≡◌, ◌⊎◌, List, [], ◌∷◌, Some, N
 use Rattle.script.specs.declared.branch.Branch.{Branch}
 use Rattle.script.specs.declared.branch.Placed.{Placed}
 use Rattle.script.specs.declared.fault.Fault.{Fault}
-use Rattle.script.specs.declared.fault.Layer.TheVariants.{Sheet}
+use Rattle.script.specs.declared.fault.Cause.TheVariants.{Sheet}
 use Rattle.script.specs.Feed.{Ending}
-use Rattle.newton.specs.declared.refusal.Refusal.{Refusal}
+use Rattle.script.specs.declared.refusal.sheet.SheetRefusal.{SheetRefusal as Refusal}
 use Rattle.newton.specs.declared.sheet.Draft.{Draft}
-use Rattle.newton.specs.Questions.{Refused, refusal_number}
+use Rattle.newton.specs.Questions.{Refused}
 use Rattle.newton.specs.Drafting.{Same, enter_questions, Enters}
 
 -- the fault of a branch that the sheet refuses
 abbrev pub sheet_fault : Refusal → Placed → Fault
-sheet_fault why item = record { number = refusal_number why; layer = Sheet; line = item.line; byte = item.byte }
+sheet_fault why item = record { cause = Sheet why; place = item.place }
 
 abbrev pub ended_by : Ending → Result (Unit {0}) Fault
 ended_by None = Ok tt

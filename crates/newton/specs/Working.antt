@@ -9,8 +9,8 @@ use Rattle.linear.specs.Solved.{one_more}
 use Rattle.equations.specs.Equations.{image, slope, Solves}
 use Rattle.equations.specs.Held.{no_branch, rules_of, written}
 use Rattle.equations.specs.Rule.{Rule}
-use Rattle.newton.specs.declared.refusal.Refusal.{Refusal}
-use Rattle.newton.specs.declared.refusal.Refusal.TheVariants.{Slices, Held, Solved, Rounds, Unsolved, Routine}
+use Rattle.script.specs.declared.refusal.sheet.SheetRefusal.{SheetRefusal as Refusal}
+use Rattle.script.specs.declared.refusal.sheet.SheetRefusal.TheVariants.{Slices, Held, Solved, Rounds, Unsolved, Routine}
 use Rattle.newton.specs.declared.sheet.Draft.{Draft}
 use Rattle.newton.specs.declared.sheet.Work.{Work}
 use Rattle.newton.specs.declared.sheet.Settled.{Settled}

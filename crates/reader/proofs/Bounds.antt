@@ -3,7 +3,7 @@ use Rattle.std.proofs.Common.{ℕ, suc, ◌+◌, ◌≤◌, eqb, leb, List, [], 
 use Rattle.std.specs.Str.{bytes_eq}
 use Rattle.std.proofs.lemmas.Bool.{cond_both, leb-true}
 use Rattle.script.specs.declared.branch.Placed.{Placed}
-use Rattle.reader.specs.declared.refusal.Refusal.TheVariants.{Size}
+use Rattle.script.specs.declared.refusal.reader.ReaderRefusal.TheVariants.{Size}
 use Rattle.script.specs.Feed.{Feed}
 use Rattle.reader.specs.Format.{onto, pieces, line_end, space}
 use Rattle.script.specs.Legend.{Legend}

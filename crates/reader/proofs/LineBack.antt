@@ -77,12 +77,12 @@ module _ (names : Legend) (good : GoodNames names) (b : Branch) (fits : GoodBran
   pub line_back :
       (line byte : ℕ) (rest : List ℕ) →
       lines_feed legend line byte (pieces line_end (written_line names b ++ line_end ∷ rest))
-      ≡ line_feed None (record { branch = b; line = line; byte = byte })
+      ≡ line_feed None (record { branch = b; place = record { line = line; byte = byte } })
       (lines_feed (take (seen_after seen (mentions b)) names) (line + 1) (byte + length (written_line names b) + 1) (pieces line_end rest))
   line_back line byte rest =
       let l = written_line names b in
       let words = line_pieces names b fits good in
       ap (lines_feed legend line byte) (piece_before line_end l rest (line_above names b fits good))
       ∙ feed_at legend line byte l (pieces line_end rest) (pieces_some line_end rest)
-      ∙ (λ i. line_feed (line_refusal legend (words i)) (record { branch = line_branch legend (words i); line = line; byte = byte }) (lines_feed (line_met legend (words i)) (line + 1) (byte + length l + 1) (pieces line_end rest)))
-      ∙ (λ i. line_feed (not_refused i) (record { branch = branch_back i; line = line; byte = byte }) (lines_feed (met_is i) (line + 1) (byte + length l + 1) (pieces line_end rest)))
+      ∙ (λ i. line_feed (line_refusal legend (words i)) (record { branch = line_branch legend (words i); place = record { line = line; byte = byte } }) (lines_feed (line_met legend (words i)) (line + 1) (byte + length l + 1) (pieces line_end rest)))
+      ∙ (λ i. line_feed (not_refused i) (record { branch = branch_back i; place = record { line = line; byte = byte } }) (lines_feed (met_is i) (line + 1) (byte + length l + 1) (pieces line_end rest)))

@@ -17,7 +17,7 @@ use Rattle.reader.specs.Text.{Misread, line_refusal, line_branch, line_met, fail
 -- a line with others behind it
 module _ (legend : Legend) (line byte : ℕ) (l : List ℕ) where
   abbrev item : Placed
-  item = record { branch = line_branch legend (pieces space l); line = line; byte = byte }
+  item = record { branch = line_branch legend (pieces space l); place = record { line = line; byte = byte } }
 
   abbrev others : List (List ℕ) → Feed
   others ls = lines_feed (line_met legend (pieces space l)) (line + 1) (byte + length l + 1) ls
@@ -65,9 +65,9 @@ module _ (fault : Option Fault) (sound : fault ≡ None) (legend : Legend) (line
 
     -- the line is read
     module _ (branch : Branch) (after : Legend) (good : line_refusal legend (pieces space l) ≡ None) (is : branch ≡ line_branch legend (pieces space l)) (met : after ≡ line_met legend (pieces space l)) where
-      pub next_read : Gives left (Ok (Some (record { branch = branch; line = line; byte = byte }))) (feed_behind fault (lines_feed after (line + 1) (byte + length l + 1) (pieces line_end rest')))
+      pub next_read : Gives left (Ok (Some (record { branch = branch; place = record { line = line; byte = byte } }))) (feed_behind fault (lines_feed after (line + 1) (byte + length l + 1) (pieces line_end rest')))
       next_read =
-          transport (λ i. Gives (sym at_line i) (Ok (Some (record { branch = sym is i; line = line; byte = byte }))) (feed_behind (sym sound i) (lines_feed (sym met i) (line + 1) (byte + length l + 1) (pieces line_end rest'))))
+          transport (λ i. Gives (sym at_line i) (Ok (Some (record { branch = sym is i; place = record { line = line; byte = byte } }))) (feed_behind (sym sound i) (lines_feed (sym met i) (line + 1) (byte + length l + 1) (pieces line_end rest'))))
           (gives_branch legend line byte l (pieces line_end rest') (pieces_some line_end rest') good)
 
       pub next_legend : lines_legend after (pieces line_end rest') ≡ lines_legend legend (pieces line_end rest)

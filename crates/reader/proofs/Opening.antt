@@ -4,7 +4,7 @@ use Rattle.std.specs.Str.{bytes_eq}
 use Rattle.std.proofs.lemmas.Slice.Eq.{bytes_eq-Decides}
 use Rattle.std.proofs.lemmas.Bool.{le-leb, lt-leb}
 use Rattle.std.proofs.lemmas.Bool.Decides.{same_from_decides}
-use Rattle.reader.specs.declared.refusal.Refusal.TheVariants.{Size, FirstLine}
+use Rattle.script.specs.declared.refusal.reader.ReaderRefusal.TheVariants.{Size, FirstLine}
 use Rattle.reader.specs.Format.{pieces, line_end}
 use Rattle.script.specs.Legend.{Legend}
 use Rattle.reader.specs.Text.{first_line, behind_first, opened, opened_legend, failed, reader_fault, lines_feed, lines_legend, text_feed, text_legend}

@@ -14,7 +14,7 @@ lines_back : (names : Legend) → GoodNames names → (seen line byte : ℕ) (bs
 lines_back names good seen line byte [] within fits = refl
 lines_back names good seen line byte (b ∷ bs) within fits =
     line_back names good b fits.0 seen within fits.1 line byte (written_lines names bs)
-    ∙ ap (line_feed None (record { branch = b; line = line; byte = byte }))
+    ∙ ap (line_feed None (record { branch = b; place = record { line = line; byte = byte } }))
     (lines_back names good (seen_after seen (mentions b)) (line + 1) (byte + length (written_line names b) + 1) bs (seen_within names good b fits.0 seen within fits.1) fits.2)
 
 pub read_back : (text : List ℕ) → ReadBack text (text_feed text)

@@ -5,10 +5,10 @@ use Rattle.std.proofs.lemmas.List.{length-take-le}
 use Rattle.script.specs.declared.branch.Branch.{Branch}
 use Rattle.script.specs.declared.fault.Fault.{Fault}
 use Rattle.reader.specs.declared.line.Calls.{Calls}
-use Rattle.reader.specs.declared.line.Place.{Place}
+use Rattle.script.specs.declared.place.Place.{Place}
 use Rattle.reader.specs.declared.names.Names.{Names as Known}
-use Rattle.reader.specs.declared.refusal.Refusal.{Refusal}
-use Rattle.reader.specs.declared.refusal.Refusal.TheVariants.{Words, Name, Number, Names, Calls as BadCalls}
+use Rattle.script.specs.declared.refusal.reader.ReaderRefusal.{ReaderRefusal as Refusal}
+use Rattle.script.specs.declared.refusal.reader.ReaderRefusal.TheVariants.{Words, Name, Number, Names, Calls as BadCalls}
 use Rattle.reader.specs.Format.{is_name, in_range, is_calls, called, value}
 use Rattle.script.specs.Legend.{Legend, number_of, met, numbers_of}
 use Rattle.reader.specs.Row.{counted, fault_at, Column, Routine, Called, Reads}

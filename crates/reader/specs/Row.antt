@@ -3,11 +3,11 @@ use Rattle.std.specs.Prelude.{◌≡◌, ℕ, ◌+◌, ◌<◌, ◌≤◌, true,
 use Rattle.script.specs.declared.branch.Branch.{Branch}
 use Rattle.script.specs.declared.fault.Fault.{Fault}
 use Rattle.reader.specs.declared.line.Calls.{Calls}
-use Rattle.reader.specs.declared.line.Place.{Place}
+use Rattle.script.specs.declared.place.Place.{Place}
 use Rattle.reader.specs.declared.line.Row.{Row}
 use Rattle.reader.specs.declared.names.Names.{Names as Known}
-use Rattle.reader.specs.declared.refusal.Refusal.{Refusal}
-use Rattle.reader.specs.declared.refusal.Refusal.TheVariants.{Name, Number, Names, Calls as BadCalls}
+use Rattle.script.specs.declared.refusal.reader.ReaderRefusal.{ReaderRefusal as Refusal}
+use Rattle.script.specs.declared.refusal.reader.ReaderRefusal.TheVariants.{Name, Number, Names, Calls as BadCalls}
 use Rattle.reader.specs.Format.{is_name, in_range, value, called, is_calls}
 use Rattle.reader.specs.Known.{known}
 use Rattle.script.specs.Legend.{Legend, number_of, met, all_met, numbers_of}

@@ -5,25 +5,15 @@ use Rattle.std.specs.Str.{bytes_eq}
 use Rattle.script.specs.declared.branch.Branch.{Branch}
 use Rattle.script.specs.declared.branch.Placed.{Placed}
 use Rattle.script.specs.declared.fault.Fault.{Fault}
-use Rattle.script.specs.declared.fault.Layer.TheVariants.{Reader}
-use Rattle.reader.specs.declared.refusal.Refusal.{Refusal}
-use Rattle.reader.specs.declared.refusal.Refusal.TheVariants.{Size, FirstLine, Words, Name, Number, Calls, Names}
+use Rattle.script.specs.declared.fault.Cause.TheVariants.{Reader}
+use Rattle.script.specs.declared.refusal.reader.ReaderRefusal.{ReaderRefusal as Refusal}
+use Rattle.script.specs.declared.refusal.reader.ReaderRefusal.TheVariants.{Size, FirstLine, Words, Name, Number, Calls, Names}
 use Rattle.script.specs.Feed.{Feed}
 use Rattle.reader.specs.Format.{pieces, line_end, space, is_name, in_range, value, called, is_calls}
 use Rattle.script.specs.Legend.{Legend, number_of, met, all_met, numbers_of}
 
--- The number of each refusal of the reader.
-abbrev pub refusal_number : Refusal → ℕ
-refusal_number Size = 20
-refusal_number FirstLine = 21
-refusal_number Words = 22
-refusal_number Name = 23
-refusal_number Number = 24
-refusal_number Calls = 25
-refusal_number Names = 26
-
 abbrev pub reader_fault : Refusal → ℕ → ℕ → Fault
-reader_fault why line byte = record { number = refusal_number why; layer = Reader; line = line; byte = byte }
+reader_fault why line byte = record { cause = Reader why; place = record { line = line; byte = byte } }
 
 -- A refusal within a line: what for, and how far behind the line's start.
 abbrev pub Misread : Type 0
@@ -102,7 +92,7 @@ ended = record { items = []; ending = None }
 
 -- what a line comes to: its refusal, or its branch in front of what the lines behind it give
 abbrev pub line_feed : Option Misread → Placed → Feed → Feed
-line_feed (Some misread) item others = failed (reader_fault misread.0 item.line (item.byte + misread.1))
+line_feed (Some misread) item others = failed (reader_fault misread.0 item.place.line (item.place.byte + misread.1))
 line_feed None item others = record { items = item ∷ others.items; ending = others.ending }
 
 -- The lines behind the first one, of which the next has the number `line` and begins at `byte`.
@@ -112,7 +102,7 @@ lines_feed legend line byte [] = ended
 lines_feed legend line byte ([] ∷ []) = ended
 lines_feed legend line byte ((b ∷ bs) ∷ []) = failed (reader_fault Words line byte)
 lines_feed legend line byte (l ∷ m ∷ ls) =
-    line_feed (line_refusal legend (pieces space l)) (record { branch = line_branch legend (pieces space l); line = line; byte = byte })
+    line_feed (line_refusal legend (pieces space l)) (record { branch = line_branch legend (pieces space l); place = record { line = line; byte = byte } })
     (lines_feed (line_met legend (pieces space l)) (line + 1) (byte + length l + 1) (m ∷ ls))
 
 -- the legend behind a line: a line that is refused ends it

@@ -46,7 +46,7 @@ module _ (names : Legend) where
   -- the branches with their lines and bytes, from a line that begins at a byte
   abbrev pub placed_lines : ℕ → ℕ → List Branch → List Placed
   placed_lines line byte [] = []
-  placed_lines line byte (b ∷ bs) = record { branch = b; line = line; byte = byte } ∷ placed_lines (line + 1) (byte + length (written_line b) + 1) bs
+  placed_lines line byte (b ∷ bs) = record { branch = b; place = record { line = line; byte = byte } } ∷ placed_lines (line + 1) (byte + length (written_line b) + 1) bs
 
 -- Different names, each well formed, at most 32.
 pub record GoodNames (names : Legend) : Type 0 where

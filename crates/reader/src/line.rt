@@ -2,13 +2,6 @@
 ghost use Rattle.std.specs.Prelude.{◌≡◌, ◌≤◌, length, take};
 ghost use Rattle.reader.specs.Text.{four};
 
-// Where a line begins: its number from 1, and its first byte from 0.
-#[derive(Clone, Copy)]
-pub(crate) struct Place {
-    pub line: usize,
-    pub byte: usize,
-}
-
 // The five words of a line.
 #[derive(Clone, Copy)]
 pub(crate) struct Row<'a> {
@@ -30,4 +23,4 @@ pub(crate) struct Calls {
 
 mod read;
 
-pub(crate) use read::read_line;
+pub(crate) use read::{fault_at, read_line};

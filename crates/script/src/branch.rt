@@ -1,6 +1,8 @@
 // One branch of a routine: what it calls, and what it costs.
 ghost use Rattle.std.specs.Prelude.{◌≡◌, take};
 
+use crate::place::Place;
+
 // A plain record. A table can hand in any, so each field may lie outside the range that a script
 // allows: routine and calls 0 to 31, count 0 to 4, seconds 0 to 3,600, turn 0 to 23. Of the four
 // call places the first `count` are meant, repeats allowed.
@@ -19,12 +21,8 @@ impl Branch {
     pub fn counted_calls(&self) -> &[u8]
         ensures { result.now ≡ take self.now.count self.now.calls }
     {
-        let count = self.count as usize;
-        if count < 4 {
-            &self.calls[..count]
-        } else {
-            &self.calls
-        }
+        let count = usize::from(self.count).min(4);
+        &self.calls[..count]
     }
 }
 
@@ -32,6 +30,5 @@ impl Branch {
 #[derive(Clone, Copy, Debug)]
 pub struct Placed {
     pub branch: Branch,
-    pub line: usize,
-    pub byte: usize,
+    pub place: Place,
 }

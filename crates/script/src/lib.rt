@@ -3,6 +3,8 @@
 
 pub mod branch;
 pub mod fault;
+pub mod place;
+pub mod refusal;
 pub mod source;
 pub mod table;
 pub mod weighing;

@@ -8,7 +8,7 @@ ghost use Rattle.newton.specs.Drafting.{named, above, enter_questions, Entered, 
 use super::Draft;
 use crate::refusal::Refusal;
 use script::branch::{Branch, Placed};
-use script::fault::{Fault, Layer};
+use script::fault::{Cause, Fault};
 use script::source::Source;
 use script::weighing::Weighing;
 use semiring::Semiring;
@@ -152,10 +152,8 @@ impl Draft {
         match self.enter(&item.branch, branches, weights) {
             Ok(()) => Ok(()),
             Err(refusal) => Err(Fault {
-                number: refusal.number(),
-                layer: Layer::Sheet,
-                line: item.line,
-                byte: item.byte,
+                cause: Cause::Sheet(refusal),
+                place: item.place,
             }),
         }
     }

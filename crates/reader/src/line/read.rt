@@ -5,12 +5,13 @@ ghost use Rattle.reader.specs.Known.{known};
 ghost use Rattle.reader.specs.Row.{row_words, counted, Numbers, fault_at, Column, Routine, Called, Reads};
 ghost use Rattle.reader.specs.Text.{offset};
 
-use super::{Calls, Place, Row};
+use super::{Calls, Row};
 use crate::names::Names;
 use crate::refusal::Refusal;
 use crate::words::{PLUS, SPACE, calls_ok, cut, name_ok, number};
 use script::branch::Branch;
-use script::fault::{Fault, Layer};
+use script::fault::{Cause, Fault};
+use script::place::Place;
 
 impl<'a> Row<'a> {
     // The words of a line, where there are five.
@@ -89,18 +90,17 @@ fn number_calls(names: &mut Names, word: &[u8]) -> Option<Calls>
     }
 }
 
-impl Place {
-    // The fault of a word that begins so far behind this place.
-    pub(crate) fn fault(self, refusal: Refusal, behind: usize) -> Fault
-        requires { self.byte + behind < 2 ^ 64 }
-        ensures { result ≡ fault_at self refusal behind }
-    {
-        Fault {
-            number: refusal.number(),
-            layer: Layer::Reader,
-            line: self.line,
-            byte: self.byte + behind,
-        }
+// The fault of a word that begins so far behind a place.
+pub(crate) fn fault_at(place: Place, refusal: Refusal, behind: usize) -> Fault
+    requires { place.byte + behind < 2 ^ 64 }
+    ensures { result ≡ fault_at place refusal behind }
+{
+    Fault {
+        cause: Cause::Reader(refusal),
+        place: Place {
+            line: place.line,
+            byte: place.byte + behind,
+        },
     }
 }
 
@@ -110,7 +110,7 @@ fn read_number(word: &[u8], most: u16, place: Place, behind: usize) -> Result<u1
 {
     match number(word, most) {
         Some(n) => Ok(n),
-        None => Err(place.fault(Refusal::Number, behind)),
+        None => Err(fault_at(place, Refusal::Number, behind)),
     }
 }
 
@@ -118,11 +118,11 @@ fn read_routine(names: &mut Names, word: &[u8], place: Place) -> Result<u8, Faul
     ensures { Routine (known names.old) word.now place result (known names.new) }
 {
     if !name_ok(word) {
-        return Err(place.fault(Refusal::Name, 0));
+        return Err(fault_at(place, Refusal::Name, 0));
     }
     match names.number(word) {
         Some(n) => Ok(n),
-        None => Err(place.fault(Refusal::Names, 0)),
+        None => Err(fault_at(place, Refusal::Names, 0)),
     }
 }
 
@@ -131,11 +131,11 @@ fn read_calls(names: &mut Names, word: &[u8], place: Place, behind: usize) -> Re
     ensures { Called (known names.old) word.now place behind result (known names.new) }
 {
     if !calls_ok(word) {
-        return Err(place.fault(Refusal::Calls, behind));
+        return Err(fault_at(place, Refusal::Calls, behind));
     }
     match number_calls(names, word) {
         Some(calls) => Ok(calls),
-        None => Err(place.fault(Refusal::Names, behind)),
+        None => Err(fault_at(place, Refusal::Names, behind)),
     }
 }
 
@@ -149,7 +149,7 @@ pub(crate) fn read_line(
     ensures { Reads (known names) (pieces 32 line.now) place result }
 {
     let Some(row) = Row::of(line) else {
-        return Err(place.fault(Refusal::Words, 0));
+        return Err(fault_at(place, Refusal::Words, 0));
     };
     let routine = read_routine(&mut names, row.name, place)?;
     let seconds_at = row.name.len() + 1;

@@ -8,12 +8,13 @@ ghost use Rattle.reader.specs.Unread.{text_left, legend_left, AtEnd};
 ghost use Rattle.reader.specs.Writing.{ReadBack};
 
 use super::TextSource;
-use crate::line::{Place, read_line};
+use crate::line::{fault_at, read_line};
 use crate::names::Names;
 use crate::refusal::Refusal;
 use crate::words::{LINE_END, cut};
 use script::branch::Placed;
-use script::fault::{Fault, Layer};
+use script::fault::{Cause, Fault};
+use script::place::Place;
 use script::source::Source;
 
 // What a file may have at most.
@@ -39,10 +40,8 @@ fn refused<'a>(refusal: Refusal, line: usize) -> TextSource<'a>
         byte: 0,
         names: Names::none(),
         fault: Some(Fault {
-            number: refusal.number(),
-            layer: Layer::Reader,
-            line,
-            byte: 0,
+            cause: Cause::Reader(refusal),
+            place: Place { line, byte: 0 },
         }),
     }
 }
@@ -104,17 +103,13 @@ impl<'a> Source for TextSource<'a> {
             byte: self.byte,
         };
         let Some((text, rest)) = cut(self.rest, LINE_END) else {
-            return Err(place.fault(Refusal::Words, 0));
+            return Err(fault_at(place, Refusal::Words, 0));
         };
         let (branch, names) = read_line(self.names, text, place)?;
         self.rest = rest;
         self.line += 1;
         self.byte = self.byte + text.len() + 1;
         self.names = names;
-        Ok(Some(Placed {
-            branch,
-            line: place.line,
-            byte: place.byte,
-        }))
+        Ok(Some(Placed { branch, place }))
     }
 }

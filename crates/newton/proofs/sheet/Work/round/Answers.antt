@@ -1,6 +1,6 @@
 use Rattle.std.proofs.Common.{◌<◌, [], ◌∷◌, Err, sym, refl, ap, ◌∙◌, subst}
 use Rattle.std.proofs.lemmas.Result.{err_from_is_err_and}
-use Rattle.newton.specs.declared.refusal.Refusal.TheVariants.{Rounds}
+use Rattle.script.specs.declared.refusal.sheet.SheetRefusal.TheVariants.{Rounds}
 use Rattle.newton.specs.Working.{SlicesOf, due_questions, Rounded}
 use Rattle.newton.proofs.Asking.{refused_more}
 use Rattle.newton.proofs.sheet.Work.round.Goals as goal

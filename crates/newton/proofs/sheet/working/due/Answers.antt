@@ -1,6 +1,6 @@
 use Rattle.std.proofs.Common.{[], ◌∷◌, Err, sym, ap, ◌∙◌, subst}
 use Rattle.std.proofs.lemmas.Result.{err_from_is_err_and}
-use Rattle.newton.specs.declared.refusal.Refusal.TheVariants.{Solved}
+use Rattle.script.specs.declared.refusal.sheet.SheetRefusal.TheVariants.{Solved}
 use Rattle.newton.specs.Questions.{Asked}
 use Rattle.newton.specs.Working.{SlicesOf, slice_questions, due_questions, SolvedBy}
 use Rattle.newton.proofs.Asking.{refused_more}

@@ -1,6 +1,6 @@
 use Rattle.std.proofs.Common.{◌+◌, length, Ok, Err, sym, ap, ◌∙◌, subst, arith}
 use Rattle.std.proofs.lemmas.Result.{err_from_is_err_and}
-use Rattle.reader.specs.declared.refusal.Refusal.TheVariants.{Words}
+use Rattle.script.specs.declared.refusal.reader.ReaderRefusal.TheVariants.{Words}
 use Rattle.reader.specs.Known.{known}
 use Rattle.reader.specs.Text.{line_refusal, line_branch, line_met}
 use Rattle.reader.specs.Row.{row_words, Called}
@@ -8,7 +8,7 @@ use Rattle.reader.proofs.Rows.{not_five, bad_routine, bad_seconds, bad_light, ba
 use Rattle.reader.proofs.line.read.read_line.Goals as goal
 
 pub returns-in_default : goal.returns-in_default
-returns-in_default c = ((Words, 0), not_five (known c.args.names) _ c.in_default.ensures, c.fault.ensures)
+returns-in_default c = ((Words, 0), not_five (known c.args.names) _ c.in_default.ensures, c.fault_at.ensures)
 
 pub returns-in_err-routine : goal.returns-in_err-routine
 returns-in_err-routine c =
