@@ -34,8 +34,6 @@ impl fmt::Display for Fault {
     ghost output = { λ x. Some (fault_text x) };
 
     fn fmt<W: fmt::Write>(&self, f: &mut fmt::Formatter<W>) -> fmt::Result {
-        let cause = self.cause;
-        let place = self.place;
-        write!(f, "refused {cause} {place}")
+        write!(f, "refused {} {}", self.cause, self.place)
     }
 }

@@ -15,8 +15,6 @@ impl fmt::Display for Place {
     ghost output = { λ p. Some (place_text p) };
 
     fn fmt<W: fmt::Write>(&self, f: &mut fmt::Formatter<W>) -> fmt::Result {
-        let line = self.line;
-        let byte = self.byte;
-        write!(f, "line {line} byte {byte}")
+        write!(f, "line {} byte {}", self.line, self.byte)
     }
 }
