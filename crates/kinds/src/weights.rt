@@ -3,28 +3,28 @@
 ghost use Rattle.std.specs.Prelude.{◌^◌, ◌<◌, ◌≤◌};
 
 // A number of at most TOP.
-#[derive(Clone, Copy, PartialEq, Eq, Debug)]
+#[derive(Clone, Copy, PartialEq, Eq, PartialOrd, Ord, Debug)]
 pub struct Bounded<const TOP: u16> {
     pub value: u16,
     ghost ok: { value ≤ TOP },
 }
 
 // The least seconds of a way: 0 to 65,534, or no way at all.
-#[derive(Clone, Copy, PartialEq, Eq, Debug)]
+#[derive(Clone, Copy, PartialEq, Eq, PartialOrd, Ord, Debug)]
 pub enum Least {
     Seconds(Bounded<65534>),
     Never,
 }
 
 // The most seconds of a way: none at all, or 0 to 65,535, where the last stands for any more.
-#[derive(Clone, Copy, PartialEq, Eq, Debug)]
+#[derive(Clone, Copy, PartialEq, Eq, PartialOrd, Ord, Debug)]
 pub enum Most {
     Never,
     Seconds(Bounded<65535>),
 }
 
 // A level of light, 0 to 65,535.
-#[derive(Clone, Copy, PartialEq, Eq, Debug)]
+#[derive(Clone, Copy, PartialEq, Eq, PartialOrd, Ord, Debug)]
 pub struct Light {
     pub level: Bounded<65535>,
 }
