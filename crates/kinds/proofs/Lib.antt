@@ -1,4 +1,5 @@
 pub mod Hex
+pub mod Order
 pub mod Stations
 pub mod Table
 pub mod Turns

@@ -1,6 +1,6 @@
-// Numbers with a bound: the smaller and the larger of two, and a number that is held at it.
-ghost use Rattle.std.specs.Prelude.{◌≡◌, true, false, Some, decimal, ◌≢◌};
-ghost use Rattle.kinds.specs.Bounded.{smaller, larger, held};
+// Numbers with a bound: a number that is held at it, and how it prints.
+ghost use Rattle.std.specs.Prelude.{◌≡◌, Some, decimal};
+ghost use Rattle.kinds.specs.Bounded.{held};
 
 use crate::weights::Bounded;
 use std::fmt;
@@ -13,34 +13,6 @@ impl<const TOP: u16> Bounded<TOP> {
         Bounded {
             value: value.min(u32::from(TOP)) as u16,
         }
-    }
-
-    pub(crate) fn smaller(self, other: Bounded<TOP>) -> Bounded<TOP>
-        ensures { result ≡ smaller self.entry other.entry }
-    {
-        if self.value <= other.value {
-            self
-        } else {
-            other
-        }
-    }
-
-    pub(crate) fn larger(self, other: Bounded<TOP>) -> Bounded<TOP>
-        ensures { result ≡ larger self.entry other.entry }
-    {
-        if self.value < other.value {
-            other
-        } else {
-            self
-        }
-    }
-
-    // Yes exactly where the two numbers are equal.
-    pub(crate) fn same(self, other: Bounded<TOP>) -> bool
-        ensures yes { result ≡ true → self.entry ≡ other.entry }
-        ensures no { result ≡ false → self.entry ≢ other.entry }
-    {
-        self.value == other.value
     }
 }
 

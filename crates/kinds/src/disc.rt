@@ -5,8 +5,7 @@ ghost use Rattle.std.specs.Fmt.{digit_glyph};
 ghost use Rattle.kinds.specs.Disc.{has, only, times, turned, divisor, entry, table, weight, text};
 ghost use Rattle.kinds.specs.Stations.{Stations};
 ghost use Rattle.kinds.specs.Laws.Star.{disc_algebra};
-ghost use Rattle.std.proofs.Common.{rules, eqb-true};
-ghost use Rattle.kinds.specs.Laws.Disc.{same_bits};
+ghost use Rattle.kinds.specs.Laws.Equal.{disc_identity};
 
 use crate::weights::{Disc, Multiples};
 use script::branch::Branch;
@@ -163,7 +162,7 @@ impl Disc {
 impl Semiring for Disc {
     ghost algebra = { disc_algebra };
 
-    ghost equal = { record { sound = λ a b t. same_bits a b (eqb-true _ _ t); reflexive = Prim.search rules } };
+    ghost equal = { disc_identity };
 
     fn zero() -> Disc {
         Disc { bits: 0 }

@@ -2,10 +2,7 @@
 ghost use Rattle.std.specs.Prelude.{◌≡◌, Some};
 ghost use Rattle.kinds.specs.Least.{seconds, weight, text};
 ghost use Rattle.kinds.specs.Laws.Least.{least_algebra};
-ghost use Rattle.std.proofs.Common.{rules, ap, refl, eqb-true};
-ghost use Rattle.std.proofs.lemmas.Bool.{false≢true};
-ghost use Rattle.kinds.specs.Laws.Alike.{alike};
-ghost use Rattle.kinds.specs.declared.weights.Least.TheVariants.{Seconds, Never};
+ghost use Rattle.kinds.specs.Laws.Equal.{least_identity};
 
 use crate::weights::{Bounded, Least};
 use script::branch::Branch;
@@ -30,13 +27,7 @@ impl Least {
 impl Semiring for Least {
     ghost algebra = { least_algebra };
 
-    ghost equal = { record {
-      sound = elim [
-        | Seconds x ↦ elim [ Seconds y ↦ λ t. ap Seconds (alike x y (eqb-true _ _ t)) | Never ↦ λ t. absurd (false≢true t) ]
-        | Never ↦ elim [ Seconds y ↦ λ t. absurd (false≢true t) | Never ↦ λ t. refl ]
-      ];
-      reflexive = Prim.search rules;
-    } };
+    ghost equal = { least_identity };
 
     fn zero() -> Least {
         Least::Never
@@ -47,23 +38,16 @@ impl Semiring for Least {
     }
 
     fn sum(self, other: Least) -> Least {
-        let Least::Seconds(a) = self else {
-            return other;
-        };
-        let Least::Seconds(b) = other else {
-            return self;
-        };
-        Least::Seconds(a.smaller(b))
+        self.min(other)
     }
 
     fn product(self, other: Least) -> Least {
-        let Least::Seconds(a) = self else {
-            return Least::Never;
-        };
-        let Least::Seconds(b) = other else {
-            return Least::Never;
-        };
-        Least::after(u32::from(a.value) + u32::from(b.value))
+        match (self, other) {
+            (Least::Seconds(a), Least::Seconds(b)) => {
+                Least::after(u32::from(a.value) + u32::from(b.value))
+            }
+            _ => Least::Never,
+        }
     }
 
     fn star(self) -> Least {

@@ -2,9 +2,7 @@
 ghost use Rattle.std.specs.Prelude.{◌≡◌, Some};
 ghost use Rattle.kinds.specs.Light.{light, weight, text};
 ghost use Rattle.kinds.specs.Laws.Light.{light_algebra};
-ghost use Rattle.std.proofs.Common.{rules, ap, eqb-true};
-ghost use Rattle.kinds.specs.Laws.Alike.{alike};
-ghost use Rattle.kinds.specs.declared.weights.Bounded.{Bounded as Held};
+ghost use Rattle.kinds.specs.Laws.Equal.{light_identity};
 
 use crate::weights::{Bounded, Light};
 use script::branch::Branch;
@@ -27,7 +25,7 @@ impl Light {
 impl Semiring for Light {
     ghost algebra = { light_algebra };
 
-    ghost equal = { record { sound = λ a b t. ap (λ (l : Held 65535). record { level = l }) (alike a.level b.level (eqb-true _ _ t)); reflexive = Prim.search rules } };
+    ghost equal = { light_identity };
 
     fn zero() -> Light {
         Light::of(0)
@@ -38,15 +36,11 @@ impl Semiring for Light {
     }
 
     fn sum(self, other: Light) -> Light {
-        Light {
-            level: self.level.larger(other.level),
-        }
+        self.max(other)
     }
 
     fn product(self, other: Light) -> Light {
-        Light {
-            level: self.level.smaller(other.level),
-        }
+        self.min(other)
     }
 
     fn star(self) -> Light {

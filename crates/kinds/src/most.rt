@@ -2,10 +2,7 @@
 ghost use Rattle.std.specs.Prelude.{◌≡◌, Some};
 ghost use Rattle.kinds.specs.Most.{seconds, weight, text};
 ghost use Rattle.kinds.specs.Laws.Most.{most_algebra};
-ghost use Rattle.std.proofs.Common.{rules, ap, refl, eqb-true};
-ghost use Rattle.std.proofs.lemmas.Bool.{false≢true};
-ghost use Rattle.kinds.specs.Laws.Alike.{alike};
-ghost use Rattle.kinds.specs.declared.weights.Most.TheVariants.{Seconds, Never};
+ghost use Rattle.kinds.specs.Laws.Equal.{most_identity};
 
 use crate::weights::{Bounded, Most};
 use script::branch::Branch;
@@ -26,13 +23,7 @@ impl Most {
 impl Semiring for Most {
     ghost algebra = { most_algebra };
 
-    ghost equal = { record {
-      sound = elim [
-        | Never ↦ elim [ Seconds y ↦ λ t. absurd (false≢true t) | Never ↦ λ t. refl ]
-        | Seconds x ↦ elim [ Seconds y ↦ λ t. ap Seconds (alike x y (eqb-true _ _ t)) | Never ↦ λ t. absurd (false≢true t) ]
-      ];
-      reflexive = Prim.search rules;
-    } };
+    ghost equal = { most_identity };
 
     fn zero() -> Most {
         Most::Never
@@ -43,23 +34,16 @@ impl Semiring for Most {
     }
 
     fn sum(self, other: Most) -> Most {
-        let Most::Seconds(a) = self else {
-            return other;
-        };
-        let Most::Seconds(b) = other else {
-            return self;
-        };
-        Most::Seconds(a.larger(b))
+        self.max(other)
     }
 
     fn product(self, other: Most) -> Most {
-        let Most::Seconds(a) = self else {
-            return Most::Never;
-        };
-        let Most::Seconds(b) = other else {
-            return Most::Never;
-        };
-        Most::after(u32::from(a.value) + u32::from(b.value))
+        match (self, other) {
+            (Most::Seconds(a), Most::Seconds(b)) => {
+                Most::after(u32::from(a.value) + u32::from(b.value))
+            }
+            _ => Most::Never,
+        }
     }
 
     fn star(self) -> Most {

@@ -10,6 +10,7 @@ pub struct Bounded<const TOP: u16> {
 }
 
 // The least seconds of a way: 0 to 65,534, or no way at all.
+// Kept: `Option` has its `None` first, and here the least of the order is the sum, with never last.
 #[derive(Clone, Copy, PartialEq, Eq, PartialOrd, Ord, Debug)]
 pub enum Least {
     Seconds(Bounded<65534>),
@@ -17,6 +18,7 @@ pub enum Least {
 }
 
 // The most seconds of a way: none at all, or 0 to 65,535, where the last stands for any more.
+// Kept: an `Option` would need a struct around it to print, and `Never` is the name that it prints.
 #[derive(Clone, Copy, PartialEq, Eq, PartialOrd, Ord, Debug)]
 pub enum Most {
     Never,

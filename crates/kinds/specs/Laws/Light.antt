@@ -6,7 +6,7 @@ use Rattle.kinds.specs.declared.weights.Light.{Light}
 use Rattle.kinds.specs.Light.{zero, one, plus, times, star}
 use Rattle.kinds.specs.Laws.Alike.{alike}
 
-same_level : (a b : Light) → a.level.value ≡ b.level.value → a ≡ b
+pub same_level : (a b : Light) → a.level.value ≡ b.level.value → a ≡ b
 same_level a b e = ap {B = Light} (λ l. record { level = l }) (alike a.level b.level e)
 
 pub light_laws : Laws zero one plus times star
