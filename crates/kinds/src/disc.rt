@@ -72,12 +72,7 @@ fn bit(station: u8) -> u32
 fn digit(number: u32) -> char
     ensures { result ≡ digit_glyph false (number % 16) }
 {
-    let value = (number % 16) as u8;
-    if value < 10 {
-        (b'0' + value) as char
-    } else {
-        (b'a' + (value - 10)) as char
-    }
+    char::from_digit(number % 16, 16).unwrap()
 }
 
 impl Disc {
@@ -203,7 +198,6 @@ impl fmt::Display for Disc {
     ghost output = { λ w. Some (text w) };
 
     fn fmt<W: fmt::Write>(&self, f: &mut fmt::Formatter<W>) -> fmt::Result {
-        let [a, b, c, d, e, g] = self.digits();
-        write!(f, "{a}{b}{c}{d}{e}{g}")
+        write!(f, "{:06x}", self.bits)
     }
 }
