@@ -38,11 +38,6 @@ union_is a b d e =
     either false true = refl
     either false false = refl
 
-pub union_bits : (a b : Disc) → bit_or a.bits b.bits ≡ (plus a b).bits
-union_bits a b =
-    let d : Disc = record { bits = bit_or a.bits b.bits; ok = or_lt 24 _ _ a.ok b.ok } in
-    ap (λ (d : Disc). d.bits) (union_is a b d refl)
-
 -- one station is one bit: computed for all of them
 lone : ℕ → Bool
 lone s = eqb (2 ^ s) (only s).bits

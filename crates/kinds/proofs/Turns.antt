@@ -1,13 +1,11 @@
 -- The product, one station of the first set after the other.
 use Rattle.std.proofs.Common.{◌≡◌, ℕ, ◌+◌, ◌-◌, ◌%◌, ◌<◌, Bool, true, false, ◌&&◌, ◌||◌, eqb, sym, refl, ap, ◌∙◌, ap₂, add-one, arith}
 use mathlib.Core.Path.{fun_ext}
-use lib.Bits.{bit_or}
 use Rattle.std.proofs.lemmas.Bool.{false≢true, and_parts, and_from, eqb-true, eq-eqb}
 use Rattle.kinds.specs.Bits.{any}
 use Rattle.kinds.specs.declared.weights.Disc.{Disc}
-use Rattle.kinds.specs.Disc.{has, stations, plus, turned}
+use Rattle.kinds.specs.Disc.{has, stations, zero, plus, turned}
 use Rattle.kinds.specs.Laws.Bits.{any_gives, gives_any}
-use Rattle.kinds.proofs.Stations.{union_bits}
 use Rattle.kinds.specs.Laws.Disc.{same_stations, has_stations, has_plus, or_comm, both_ways}
 
 -- t is (s + u) mod 24 of some u of b, where s is a station of a
@@ -18,7 +16,7 @@ from a b t s = any 24 (λ u. has a s && has b u && eqb ((s + u) % 24) t)
 abbrev pub partial : Disc → Disc → ℕ → Disc
 partial a b n = stations (λ t. any n (from a b t))
 
-pub partial_none : (a b : Disc) → 0 ≡ (partial a b 0).bits
+pub partial_none : (a b : Disc) → zero ≡ partial a b 0
 unfolding any stations
 partial_none a b = refl
 
@@ -60,9 +58,3 @@ partial_turn a b s h there =
 pub partial_skip : (a b : Disc) (s : ℕ) → has a s ≡ false → partial a b s ≡ partial a b (s + 1)
 partial_skip a b s off =
     ap stations (fun_ext (λ t. sym (any_more s (from a b t) ∙ ap (λ x. x || any s (from a b t)) (from_none a b t s off))))
-
--- a turn of the loop, by the bits of what is gathered so far
-pub partial_more : (a b turn : Disc) (all s : ℕ) → s < 24 → has a s ≡ true → all ≡ (partial a b s).bits → turn ≡ turned s b
-    → bit_or all turn.bits ≡ (partial a b (s + 1)).bits
-partial_more a b turn all s h there so_far turns =
-    ap₂ bit_or so_far (ap (λ (d : Disc). d.bits) turns) ∙ union_bits (partial a b s) (turned s b) ∙ ap (λ (d : Disc). d.bits) (partial_turn a b s h there)

@@ -102,19 +102,6 @@ impl Disc {
         }
     }
 
-    // The bits of the product: the other set, turned by each station of this one.
-    fn turns(self, other: Disc) -> u32
-        ensures { result ≡ (times self other).bits }
-    {
-        let mut all = 0;
-        for s in 0..24 {
-            if self.has(s) {
-                all |= other.turned(s).bits;
-            }
-        }
-        all
-    }
-
     // The greatest common divisor of 24 and all stations, with its multiples: of the table's
     // entries that have all stations, the last.
     fn closing(self) -> Multiples
@@ -173,10 +160,15 @@ impl Semiring for Disc {
         }
     }
 
+    // The other set, turned by each station of this one.
     fn product(self, other: Disc) -> Disc {
-        Disc {
-            bits: self.turns(other),
+        let mut all = Disc::zero();
+        for s in 0..24 {
+            if self.has(s) {
+                all = all.sum(other.turned(s));
+            }
         }
+        all
     }
 
     fn star(self) -> Disc {
