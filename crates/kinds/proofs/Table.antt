@@ -1,9 +1,14 @@
 -- Of the table's entries that have all stations of a set, the last is that of the greatest common
 -- divisor.
-use Rattle.std.proofs.Common.{◌≡◌, ℕ, zero as none, suc, ◌+◌, ◌%◌, ◌^◌, ◌<◌, max, Bool, true, false, cond, not, ◌&&◌, eqb, List, [], ◌∷◌, ◌++◌, length, get_or, take, sym, refl, ap, ◌∙◌, ap₂, arith}
+use Rattle.std.proofs.Common.{subst, ◌≡◌, ℕ, zero as none, suc, ◌%◌, ◌^◌, ◌<◌, max, Bool, true, false, cond, not, ◌&&◌, eqb, List, [], ◌∷◌, ◌++◌, sym, refl, ap, ◌∙◌, ap₂, arith}
 use lib.Bits.{bit_or, or_lt}
-use Rattle.std.proofs.lemmas.List.{take_more}
-use Rattle.std.proofs.lemmas.Bool.{false≢true, eqb-true, eq-eqb, ne_eqb, cond-true, cond-false}
+use Rattle.std.proofs.lemmas.List.{reverse-append, length-reverse}
+use Rattle.std.proofs.lemmas.Iterator.{YieldsList}
+use Rattle.std.proofs.lemmas.Iterator.Consumers.{YieldsList-from_shown}
+use Rattle.std.proofs.Common.{Iter}
+use Rattle.std.specs.Slice.Iter.{iter_rest, iter_steps_back}
+use Rattle.std.specs.Prelude.{find, reverse, Some, None}
+use Rattle.std.proofs.lemmas.Bool.{false≢true, eqb-true, eq-eqb}
 use Rattle.kinds.specs.Bits.{bits_of}
 use Rattle.kinds.specs.declared.weights.Disc.{Disc}
 use Rattle.kinds.specs.declared.weights.Multiples.{Multiples}
@@ -44,48 +49,30 @@ fits_is : (d : Disc) (g : ℕ) → fits d (entry g) ≡ not (astray d g)
 fits_is d g =
     both_ways (fits d (entry g)) (not (astray d g)) (λ e. each_gives d g (λ s h there. fits_gives d g s h there e)) (λ e. gives_fits d g (gives_each d g e))
 
--- the last entry that has all stations of d, or f
-abbrev pub last : Disc → Multiples → List Multiples → Multiples
-last d f [] = f
-last d f (e ∷ es) = last d (cond (fits d e) e f) es
-
-last_push : (d : Disc) (f : Multiples) (es : List Multiples) (e : Multiples) → last d f (es ++ (e ∷ [])) ≡ cond (fits d e) e (last d f es)
-last_push d f [] e = refl
-last_push d f (x ∷ es) e = last_push d (cond (fits d x) x f) es e
-
--- one entry more
-last_more : (d : Disc) (f : Multiples) (es : List Multiples) (i : ℕ) (x : Multiples) → i < length es
-    → last d f (take (i + 1) es) ≡ cond (fits d (get_or es i x)) (get_or es i x) (last d f (take i es))
-last_more d f es i x h = ap (last d f) (take_more es i x h) ∙ last_push d f (take i es) (get_or es i x)
-
-last_table : (d : Disc) (n : ℕ) → last d (entry 1) (table (suc n)) ≡ entry (greatest (divides d) (suc n))
+-- the first such entry from the table's end
+last_table : (d : Disc) (n : ℕ) → find (fits d) (reverse (table (suc n))) ≡ Some (entry (greatest (divides d) (suc n)))
 unfolding greatest
 last_table d none =
-    same (fits d (entry 1)) ∙ ap (λ b. entry (cond b 1 0)) (sym (each_gives d 1 (λ s h there. omega arith)))
-  where
-    same : (b : Bool) → cond b (entry 1) (entry 1) ≡ entry 1
-    same true = refl
-    same false = refl
+    let all : not (astray d 1) ≡ true = each_gives d 1 (λ s h there. omega arith) in
+    ap (λ b. cond b (Some (entry 1)) None) (fits_is d 1 ∙ all) ∙ ap (λ b. Some (entry (cond b 1 0))) (sym all)
 last_table d (suc n) = go (eqb (24 % suc (suc n)) 0) (not (astray d (suc (suc n)))) (fits_is d (suc (suc n))) (last_table d n)
   where
-    pick : (x : Bool) → cond x (entry (suc (suc n))) (entry (greatest (divides d) (suc n))) ≡ entry (cond x (suc (suc n)) (greatest (divides d) (suc n)))
+    pick : (x : Bool) → cond x (Some (entry (suc (suc n)))) (Some (entry (greatest (divides d) (suc n)))) ≡ Some (entry (cond x (suc (suc n)) (greatest (divides d) (suc n))))
     pick true = refl
     pick false = refl
 
-    go : (b x : Bool) → fits d (entry (suc (suc n))) ≡ x → last d (entry 1) (table (suc n)) ≡ entry (greatest (divides d) (suc n))
-        → last d (entry 1) (cond b (table (suc n) ++ (entry (suc (suc n)) ∷ [])) (table (suc n))) ≡ entry (cond (b && x) (suc (suc n)) (greatest (divides d) (suc n)))
+    go : (b x : Bool) → fits d (entry (suc (suc n))) ≡ x → find (fits d) (reverse (table (suc n))) ≡ Some (entry (greatest (divides d) (suc n)))
+        → find (fits d) (reverse (cond b (table (suc n) ++ (entry (suc (suc n)) ∷ [])) (table (suc n)))) ≡ Some (entry (cond (b && x) (suc (suc n)) (greatest (divides d) (suc n))))
     go true x e before =
-        last_push d (entry 1) (table (suc n)) (entry (suc (suc n)))
-        ∙ ap₂ (λ b m. cond b (entry (suc (suc n))) m) e before ∙ pick x
+        ap (find (fits d)) (reverse-append (table (suc n)) (entry (suc (suc n)) ∷ []))
+        ∙ ap₂ (λ b o. cond b (Some (entry (suc (suc n)))) o) e before ∙ pick x
     go false x e before = before
 
-pub last_is : (d : Disc) → last d (entry 1) (table 24) ≡ entry (divisor d)
+pub last_is : (d : Disc) → find (fits d) (reverse (table 24)) ≡ Some (entry (divisor d))
 last_is d = last_table d 23
 
--- a turn of the loop: the entry at i has all stations of d, or it has not
-module _ (d : Disc) (f : Multiples) (es : List Multiples) (i : ℕ) (x : Multiples) (h : i < length es) where
-  pub last_taken : bit_or d.bits (get_or es i x).bits ≡ (get_or es i x).bits → get_or es i x ≡ last d f (take (i + 1) es)
-  last_taken e = sym (last_more d f es i x h ∙ cond-true (fits d (get_or es i x)) _ _ (eq-eqb _ _ e))
-
-  pub last_passed : (bit_or d.bits (get_or es i x).bits ≡ (get_or es i x).bits → ⊥) → last d f (take i es) ≡ last d f (take (i + 1) es)
-  last_passed e = sym (last_more d f es i x h ∙ cond-false (fits d (get_or es i x)) _ _ (ne_eqb _ _ e))
+-- a slice's iterator, from the end
+pub backwards : {A : Type 0} {it : Iter A} (xs : List A) → iter_rest it ≡ xs → YieldsList iter_steps_back (λ y. y.now) it (reverse xs)
+backwards {A} {it} xs e = subst (λ k. YieldsList iter_steps_back (λ y. y.now) it (reverse k)) e
+    (YieldsList-from_shown iter_steps_back (λ y. y.now) (λ u. reverse (iter_rest u)) (λ u t p. length-reverse _ ∙ p.0)
+    (λ u x t p. ap reverse p ∙ reverse-append (iter_rest t) (x.now ∷ [])) it)

@@ -107,14 +107,11 @@ impl Disc {
     fn closing(self) -> Multiples
         ensures { result ≡ entry (divisor self) }
     {
-        let table = divisors();
-        let mut found = table[0];
-        for entry in &table {
-            if self.bits | entry.bits == entry.bits {
-                found = *entry;
-            }
-        }
-        found
+        divisors()
+            .iter()
+            .rfind(|entry| self.bits | entry.bits == entry.bits)
+            .copied()
+            .unwrap()
     }
 
     // The six hexadecimal digits of the set: read as a number they give its bits again.

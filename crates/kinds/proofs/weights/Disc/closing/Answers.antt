@@ -1,22 +1,21 @@
-use Rattle.std.proofs.Common.{◌≡◌, ℕ, ◌<◌, List, length, get_or, take, ap, ◌∙◌, ap₂, arith}
+use Rattle.std.proofs.Common.{◌≡◌, Some, ap, ◌∙◌, List, rules, tests}
+use Rattle.std.proofs.lemmas.Iterator.Search.{find_from_yields_List}
+use Rattle.std.specs.Prelude.{find, reverse}
+use Rattle.std.specs.Option.{option_copied}
 use Rattle.kinds.specs.declared.weights.Multiples.{Multiples}
-use Rattle.kinds.specs.Disc.{entry}
-use Rattle.kinds.proofs.Table.{last, last_is, last_taken, last_passed}
+use Rattle.kinds.specs.Disc.{entry, divisor}
+use Rattle.kinds.proofs.Table.{fits, last_is, backwards}
 use Rattle.kinds.proofs.weights.Disc.closing.Goals as goal
-use Rattle.kinds.proofs.weights.Disc.closing.Goals.{then-self-entry, else-self-entry}
+use Rattle.kinds.proofs.weights.Disc.closing.Goals.{After-copied}
 
-pub loop-entry-init : goal.loop-entry-init
-loop-entry-init c = ap (λ (xs : List Multiples). get_or xs 0 (record { divisor = 0; bits = 0 })) c.divisors-table.ensures
+last : (c : After-copied) → c.copied.result ≡ Some (entry (divisor c.args.self))
+last c =
+    let found : option_copied c.rfind.result ≡ find (fits c.args.self) (reverse c.divisors.result) =
+    find_from_yields_List (fits c.args.self) _ _ c.rfind.result c.rfind.ensures.ran (backwards c.divisors.result cc) (λ x b q k. search (rules, tests)) in
+    c.copied.ensures ∙ found ∙ ap (λ (es : List Multiples). find (fits c.args.self) (reverse es)) c.divisors.ensures ∙ last_is c.args.self
 
-pub loop-entry-preserved : goal.loop-entry-preserved
-loop-entry-preserved c =
-    let within : c.loop-entry.entry-index < length c.divisors-table.result = omega (arith, ap length c.divisors-table.ensures) in
-    elim c.if-self-entry.branch [
-      | then-self-entry w ↦ w.found-is ∙ last_taken c.args.self (entry 1) c.divisors-table.result _ _ within w.if-self-entry.true
-      | else-self-entry w ↦ w.found-is ∙ c.loop-entry.invariant ∙ last_passed c.args.self (entry 1) c.divisors-table.result _ (record { divisor = 0; bits = 0 }) within w.if-self-entry.false
-    ]
+pub unwrap-requires : goal.unwrap-requires
+unwrap-requires c = search (rules, last (goal.at.unwrap-requires c).After-copied)
 
 pub returns : goal.returns
-returns c =
-    let at : c.loop-entry.entry-index ≡ 8 = omega arith in
-    c.loop-entry.invariant ∙ ap₂ (λ (i : ℕ) (xs : List Multiples). last c.args.self (entry 1) (take i xs)) at c.divisors-table.ensures ∙ last_is c.args.self
+returns c = cc (last (goal.at.returns c).After-copied)
