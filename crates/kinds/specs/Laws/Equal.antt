@@ -2,10 +2,8 @@
 use Rattle.std.specs.Prelude.{◌≡◌, true, refl}
 use Rattle.std.proofs.Common.{ap, eqb-true}
 use Rattle.semiring.specs.Algebra.{IsIdentity}
-use Rattle.kinds.specs.declared.weights.Disc.{Disc}
 use Rattle.kinds.specs.declared.weights.Least.{Least}
 use Rattle.kinds.specs.declared.weights.Least.TheVariants as least
-use Rattle.kinds.specs.declared.weights.Light.{Light}
 use Rattle.kinds.specs.declared.weights.Most.{Most}
 use Rattle.kinds.specs.declared.weights.Most.TheVariants as most
 use Rattle.kinds.specs.Laws.Alike.{alike}
