@@ -1,6 +1,6 @@
-use Rattle.std.proofs.Common.{◌∙◌}
+use Rattle.std.proofs.Common.{rules}
 use Rattle.kinds.proofs.Order.{most_max}
 use Rattle.kinds.proofs.most.MostSemiring.sum.Goals as goal
 
 pub returns : goal.returns
-returns c = c.max.ensures ∙ most_max c.args.self c.args.other
+returns c = search (rules, most_max)
