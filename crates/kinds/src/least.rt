@@ -9,7 +9,6 @@ use script::branch::Branch;
 use script::weighing::Weighing;
 use semiring::Semiring;
 use std::fmt;
-use std::fmt::Display;
 
 impl Least {
     // So many seconds; from 65,535 on, never.

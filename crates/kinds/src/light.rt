@@ -9,7 +9,6 @@ use script::branch::Branch;
 use script::weighing::Weighing;
 use semiring::Semiring;
 use std::fmt;
-use std::fmt::Display;
 
 impl Light {
     // A level of light, held at 65,535.

@@ -9,7 +9,6 @@ use script::branch::Branch;
 use script::weighing::Weighing;
 use semiring::Semiring;
 use std::fmt;
-use std::fmt::Display;
 
 impl Most {
     // So many seconds, held at 65,535.
