@@ -5,9 +5,8 @@ ghost use Rattle.linear.specs.System.{cell, entry_at, Least, Free, Leaves};
 ghost use Rattle.linear.specs.Rows.{Square};
 ghost use Rattle.linear.specs.Kleene.{Passed, Stepped, Closed};
 
+use crate::counting::{Counting, Method};
 use crate::grid::Grid;
-use crate::refusal::Refusal;
-use crate::solver::{Solver, check, raise};
 use semiring::Semiring;
 
 // Adds row p to the rows from `from` up to `to`, multiplied by what each has at p.
@@ -63,52 +62,16 @@ fn multiply<K: Semiring>(grid: &Grid<'_, K>, column: &mut [K])
     }
 }
 
-fn close<K: Semiring>(n: usize, cells: &mut [K], column: &mut [K])
-    requires { (Square n cells.old) × (n ≤ length column.old) }
-    ensures { Leaves K.algebra n cells.old column.old cells.new column.new }
-{
-    let mut grid = Grid { cells, n };
-    form(&mut grid);
-    multiply(&grid, column);
-}
-
-// Closure, with the count of systems that it has solved.
+// The method itself; it has nothing to remember.
 #[derive(Drop)]
-pub struct Closure {
-    count: u32,
-}
+pub struct Closing;
 
-impl Closure {
-    pub fn new() -> Closure
-        ensures { result.count ≡ 0 }
-    {
-        Closure::counting_from(0)
-    }
-
-    // One that has solved so many systems before.
-    pub(crate) fn counting_from(count: u32) -> Closure
-        ensures { result.count ≡ count }
-    {
-        Closure { count }
+impl Method for Closing {
+    fn run<K: Semiring>(n: usize, cells: &mut [K], column: &mut [K]) {
+        let mut grid = Grid { cells, n };
+        form(&mut grid);
+        multiply(&grid, column);
     }
 }
 
-impl Solver for Closure {
-    ghost calls = { λ s. s.count };
-
-    fn solve<K: Semiring>(
-        &mut self,
-        n: usize,
-        grid: &mut [K],
-        column: &mut [K],
-    ) -> Result<(), Refusal> {
-        check(n, grid, column)?;
-        close(n, grid, column);
-        raise(&mut self.count);
-        Ok(())
-    }
-
-    fn count(&self) -> u32 {
-        self.count
-    }
-}
+pub type Closure = Counting<Closing>;

@@ -4,9 +4,8 @@ ghost use Rattle.linear.specs.System.{cell, entry_at, Least, Leaves};
 ghost use Rattle.linear.specs.Rows.{Square};
 ghost use Rattle.linear.specs.Removal.{Cleared, Removed};
 
+use crate::counting::{Counting, Method};
 use crate::grid::{Grid, read, write};
-use crate::refusal::Refusal;
-use crate::solver::{Solver, check, raise};
 use semiring::Semiring;
 
 // Solves row p for its own unknown: p goes out of it, and the rest is multiplied by the star.
@@ -75,52 +74,16 @@ fn put_back<K: Semiring>(grid: &Grid<'_, K>, column: &mut [K])
     }
 }
 
-fn eliminate<K: Semiring>(n: usize, cells: &mut [K], column: &mut [K])
-    requires { (Square n cells.old) × (n ≤ length column.old) }
-    ensures { Leaves K.algebra n cells.old column.old cells.new column.new }
-{
-    let mut grid = Grid { cells, n };
-    remove_all(&mut grid, column);
-    put_back(&grid, column);
-}
-
-// Elimination, with the count of systems that it has solved.
+// The method itself; it has nothing to remember.
 #[derive(Drop)]
-pub struct Elimination {
-    count: u32,
-}
+pub struct Eliminating;
 
-impl Elimination {
-    pub fn new() -> Elimination
-        ensures { result.count ≡ 0 }
-    {
-        Elimination::counting_from(0)
-    }
-
-    // One that has solved so many systems before.
-    pub(crate) fn counting_from(count: u32) -> Elimination
-        ensures { result.count ≡ count }
-    {
-        Elimination { count }
+impl Method for Eliminating {
+    fn run<K: Semiring>(n: usize, cells: &mut [K], column: &mut [K]) {
+        let mut grid = Grid { cells, n };
+        remove_all(&mut grid, column);
+        put_back(&grid, column);
     }
 }
 
-impl Solver for Elimination {
-    ghost calls = { λ s. s.count };
-
-    fn solve<K: Semiring>(
-        &mut self,
-        n: usize,
-        grid: &mut [K],
-        column: &mut [K],
-    ) -> Result<(), Refusal> {
-        check(n, grid, column)?;
-        eliminate(n, grid, column);
-        raise(&mut self.count);
-        Ok(())
-    }
-
-    fn count(&self) -> u32 {
-        self.count
-    }
-}
+pub type Elimination = Counting<Eliminating>;

@@ -3,6 +3,7 @@
 
 pub mod agreement;
 pub mod closure;
+pub mod counting;
 pub mod elimination;
 mod grid;
 pub mod refusal;
