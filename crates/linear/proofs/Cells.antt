@@ -43,9 +43,6 @@ module _ {K : Type 0} where
       let past : Free s.n s'.cells.now cells = rw same.size at h' in
       record { size = past.size ∙ h.size; tail = past.tail ∙ h.tail }
 
-  pub only_grid_none : (s : System K) → OnlyGrid s s
-  only_grid_none s = record { slices = same_slices s; past = record { size = refl; tail = refl }; column = refl }
-
   pub only_grid_more : {s s' s'' : System K} → OnlyGrid s s' → OnlyGrid s' s'' → OnlyGrid s s''
   only_grid_more h h' = record { slices = slices_more h.slices h'.slices; past = free_more h.slices h.past h'.past; column = h'.column ∙ h.column }
 
@@ -95,9 +92,6 @@ module _ {K : Type 0} (k : Algebra K) where
   -- Equal grids of one size have equal cells.
   pub cells_same : {s s' : System K} → SameSlices s s' → s'.cells.now ≡ s.cells.now → (r q : ℕ) → cells_of k s' r q ≡ cells_of k s r q
   cells_same same grid r q = ap₂ (λ n cells. cell k n cells r q) same.size grid
-
-  pub rewritten_none : (s : System K) (r : ℕ) (f : ℕ → K) → Rewritten k r 0 f s s
-  rewritten_none s r f = record { done = λ q l. absurd (omega arith); rest = λ i q l m apart. refl; only = only_grid_none s }
 
   -- Row r is written as a part of the grid's slice.
   pub rewritten_part : (s s' : System K) (r m : ℕ) (f : K → K) (row : List K) → r < s.n → SameSlices s s' → s'.column.now ≡ s.column.now → s'.cells.now ≡ put_mid (r * s.n) m s.cells.now row → m ≡ s.n → row ≡ map f (slice_range s.cells.now (r * s.n) (r * s.n + s.n)) → Rewritten k r s.n (λ q. f (cells_of k s r q)) s s'

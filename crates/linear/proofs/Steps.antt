@@ -1,5 +1,5 @@
 -- The steps of the two solvers, from what the row operations leave.
-use Rattle.std.proofs.Common.{◌≡◌, ℕ, suc, ◌+◌, ◌-◌, ◌*◌, ◌<◌, ◌≤◌, ◌≢◌, List, get_or, drop, set, sym, refl, ap, ◌∙◌, subst, ap₂, arith, get_or-set_other, get_or-set_same, drop-set-lt}
+use Rattle.std.proofs.Common.{◌≡◌, ℕ, suc, ◌+◌, ◌-◌, ◌*◌, ◌<◌, ◌≤◌, ◌≢◌, List, get_or, drop, set, sym, ap, ◌∙◌, subst, ap₂, arith, get_or-set_other, get_or-set_same, drop-set-lt}
 use Rattle.std.proofs.lemmas.List.{get_or_read}
 use native.Mathlib.Decide.{dec_lt}
 use Rattle.semiring.specs.Algebra.{Algebra}
@@ -9,9 +9,9 @@ use Rattle.linear.specs.System.{cell, right_side, Least, Free, Leaves}
 use Rattle.linear.specs.Rows.{SameSlices, OnlyGrid, OnlyColumn, Rewritten, cells_of, values_of, row_value, scaled, added}
 use Rattle.linear.specs.Kleene.{Passed, Stepped, Closed}
 use Rattle.linear.specs.Removal.{Refines, Cleared, Removed}
-use Rattle.linear.proofs.Cells.{by_equal, cell_set_same, cell_set_other, cells_same, slices_more, same_slices, free_more, only_grid_more}
+use Rattle.linear.proofs.Cells.{by_equal, cell_set_same, cell_set_other, cells_same, slices_more, free_more, only_grid_more}
 use Rattle.linear.proofs.Closedness.{closed_more, Multiplied, multiplied_more}
-use Rattle.linear.proofs.Refinement.{refines_refl, refines_trans, refines_least, refines_scaled, refines_added, cleared_next, Back, back_none, back_more}
+use Rattle.linear.proofs.Refinement.{refines_trans, refines_least, refines_scaled, refines_added, Back, back_more}
 
 module _ {K : Type 0} (k : Algebra K) where
   zero_row : (s u : K) → u ≡ k.zero → k.times s u ≡ k.zero
@@ -115,16 +115,6 @@ module _ {K : Type 0} (k : Algebra K) where
       so : Replaced i p (added k bare i c p) t s bare s''
       so = replaced s bare s' s'' i p (added k bare i c p) t l p<n take only row same grid write
 
-  -- Steps in a row.
-  pub removed_start : (s : System K) → Removed k 0 0 s s
-  removed_start s = record {
-    refines = refines_refl k s.n (cells_of k s) (values_of k s);
-    cleared = record { before = λ r q l m o. absurd (omega arith); here = λ r l m. absurd (omega arith) };
-    slices = same_slices s;
-    cells = record { size = refl; tail = refl };
-    places = refl;
-  }
-
   pub removed_more : {p i p' i' : ℕ} {s s' s'' : System K} → Removed k p i s s' → Removed k p' i' s' s'' → Removed k p' i' s s''
   removed_more {p' = p'} {i' = i'} {s = s} {s' = s'} {s'' = s''} h h' = record {
     refines = let next : Refines k s.n (cells_of k s') (values_of k s') (cells_of k s'') (values_of k s'') = subst (λ n. Refines k n (cells_of k s') (values_of k s') (cells_of k s'') (values_of k s'')) h.slices.size h'.refines in refines_trans k s.n h.refines next;
@@ -133,10 +123,6 @@ module _ {K : Type 0} (k : Algebra K) where
     cells = free_more h.slices h.cells h'.cells;
     places = let tail : drop s.n s''.column.now ≡ drop s.n s'.column.now = rw h.slices.size at h'.places in tail ∙ h.places;
   }
-
-  -- With the last row done, p is removed.
-  pub removed_next : (p i : ℕ) (s s' : System K) → s'.n ≤ i → Removed k p i s s' → Removed k (p + 1) (p + 1) s s'
-  removed_next p i s s' l h = record { refines = h.refines; cleared = cleared_next k s.n p i (cells_of k s') (omega (arith, h.slices.size)) h.cleared; slices = h.slices; cells = h.cells; places = h.places }
 
   -- With the last unknown removed, the values put back are what a solver leaves.
   pub leaves_back : (s s' s'' : System K) (cells column : List K) → cells ≡ s''.cells.now → column ≡ s''.column.now → Removed k s.n s.n s s' → Least k s'.n (cells_of k s') (values_of k s') (values_of k s'') → OnlyColumn s' s'' → Leaves k s.n s.cells.now s.column.now cells column
@@ -152,9 +138,6 @@ module _ {K : Type 0} (k : Algebra K) where
   -- What a row makes of the values, at the grid that stays.
   row_value_kept : (s s' : System K) (r : ℕ) → OnlyColumn s s' → row_value k s' r ≡ right_side k s.n (cells_of k s) (values_of k s') (values_of k s') r
   row_value_kept s s' r only = ap₂ (λ n cells. right_side k n cells (values_of k s') (values_of k s') r) only.slices.size (cells_kept s s' only)
-
-  pub back_start : (s : System K) → Back k s.n s.n (cells_of k s) (values_of k s) (values_of k s)
-  back_start s = back_none k s.n (cells_of k s) (values_of k s)
 
   pub back_turn : (s s' s'' : System K) (r : ℕ) → 0 < r → r ≤ s.n → Cleared k s.n s.n s.n (cells_of k s) → Back k s.n r (cells_of k s) (values_of k s) (values_of k s') → OnlyColumn s s' → s''.column.now ≡ set s'.column.now (r - 1) (row_value k s' (r - 1)) → Back k s.n (r - 1) (cells_of k s) (values_of k s) (values_of k s'')
   back_turn s s' s'' r l m clear so only write =
@@ -173,9 +156,6 @@ module _ {K : Type 0} (k : Algebra K) where
     where
       size : scaled_s.n ≡ s.n
       size = row.only.slices.size
-
-      size' : low_s.n ≡ s.n
-      size' = low.only.slices.size ∙ size
 
       other : (i q : ℕ) → i < s.n → q < s.n → i ≢ p → cells_of k scaled_s i q ≡ cells_of k s i q
       other i q o u d = row.rest i q o u (λ e. absurd (d e))

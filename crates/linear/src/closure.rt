@@ -27,8 +27,8 @@ impl<K: Semiring> System<'_, K> {
     // Lets every way pass p, any number of times.
     fn step(&mut self, p: usize)
         requires { p < self.old.n }
-        ensures cells { let a = cells_of K.algebra self.old in
-            Stepped K.algebra self.old.n p a (cells_of K.algebra self.new) }
+        ensures cells { let k = K.algebra in
+            Stepped k self.old.n p (cells_of k self.old) (cells_of k self.new) }
         ensures only { OnlyGrid self.old self.new }
     {
         let by = self.at(p, p).star();
@@ -39,8 +39,8 @@ impl<K: Semiring> System<'_, K> {
 
     // Forms all ways of the grid.
     fn form(&mut self)
-        ensures cells { let a = cells_of K.algebra self.old in
-            Closed K.algebra self.old.n self.old.n a (cells_of K.algebra self.new) }
+        ensures cells { let k = K.algebra in let n = self.old.n in
+            Closed k n n (cells_of k self.old) (cells_of k self.new) }
         ensures only { OnlyGrid self.old self.new }
     {
         for p in 0..self.n {
@@ -51,9 +51,9 @@ impl<K: Semiring> System<'_, K> {
     // Multiplies the column by the star of a grid a, of which all ways are formed. In place: a
     // value that is multiplied already adds nothing new to the next.
     fn multiply(&mut self)
-        ensures least { (a : ℕ → ℕ → K)
-            → Closed K.algebra self.old.n self.old.n a (cells_of K.algebra self.old)
-            → Least K.algebra self.old.n a (values_of K.algebra self.old) (values_of K.algebra self.new) }
+        ensures least { let k = K.algebra in let n = self.old.n in (a : ℕ → ℕ → K)
+            → Closed k n n a (cells_of k self.old)
+            → Least k n a (values_of k self.old) (values_of k self.new) }
         ensures only { OnlyColumn self.old self.new }
     {
         for r in 0..self.n {

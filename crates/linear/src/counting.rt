@@ -1,12 +1,22 @@
 // A solver that counts, by any method.
 ghost use Rattle.std.specs.Prelude.{◌≡◌, ℕ};
 ghost use Rattle.linear.specs.System.{Leaves};
-ghost use Rattle.linear.specs.Solved.{Fits};
+ghost use Rattle.linear.specs.Solved.{Fits, Asked};
 
 use crate::refusal::Refusal;
-use crate::solver::{Solver, check, raise};
+use crate::solver::Solver;
 use semiring::Semiring;
 use std::marker::PhantomData;
+
+// Whether a solver takes a system.
+fn check<K: Semiring>(n: usize, grid: &[K], column: &[K]) -> Result<(), Refusal>
+    ensures { Asked n grid.now column.now result }
+{
+    if n > 32 || column.len() < n || grid.len() < n * n {
+        return Err(Refusal::System);
+    }
+    Ok(())
+}
 
 // How the least solution of a system is found. It is handed no system that a solver refuses.
 pub trait Method {
@@ -49,7 +59,7 @@ impl<M: Method> Solver for Counting<M> {
     ) -> Result<(), Refusal> {
         check(n, grid, column)?;
         M::run(n, grid, column);
-        raise(&mut self.count);
+        self.count = self.count.saturating_add(1);
         Ok(())
     }
 

@@ -56,8 +56,8 @@ impl<K: Semiring> System<'_, K> {
     // Puts the values back, from the last row up.
     fn put_back(&mut self)
         requires { let n = self.old.n in Cleared K.algebra n n n (cells_of K.algebra self.old) }
-        ensures least { let a = cells_of K.algebra self.old in
-            Least K.algebra self.old.n a (values_of K.algebra self.old) (values_of K.algebra self.new) }
+        ensures least { let k = K.algebra in
+            Least k self.old.n (cells_of k self.old) (values_of k self.old) (values_of k self.new) }
         ensures only { OnlyColumn self.old self.new }
     {
         for r in (0..self.n).rev() {

@@ -34,7 +34,8 @@ pub(crate) struct System<'a, K> {
 }
 
 impl<'a, K: Semiring> System<'a, K> {
-    ghost use Rattle.linear.specs.Rows.{OnlyGrid, OnlyColumn, Rewritten, cells_of, row_value, scaled, added};
+    ghost use Rattle.linear.specs.Rows.{OnlyGrid, OnlyColumn, Rewritten};
+    ghost use Rattle.linear.specs.Rows.{cells_of, row_value, scaled, added};
 
     // The index of row r, place q.
     fn place(&self, r: usize, q: usize) -> usize
@@ -58,7 +59,8 @@ impl<'a, K: Semiring> System<'a, K> {
     fn put(&mut self, r: usize, q: usize, weight: K)
         requires row { r < self.old.n }
         requires place { q < self.old.n }
-        ensures cell { self.new.cells.now ≡ slice_set self.old.cells.now (r * self.old.n + q) weight }
+        ensures cell { self.new.cells.now
+            ≡ slice_set self.old.cells.now (r * self.old.n + q) weight }
         ensures only { OnlyGrid self.old self.new }
     {
         let i = self.place(r, q);
@@ -82,7 +84,8 @@ impl<'a, K: Semiring> System<'a, K> {
     // Multiplies row r by a weight.
     pub(crate) fn scale_row(&mut self, r: usize, by: K)
         requires { r < self.old.n }
-        ensures { Rewritten K.algebra r self.old.n (scaled K.algebra self.old r by) self.old self.new }
+        ensures { let row = scaled K.algebra self.old r by in
+            Rewritten K.algebra r self.old.n row self.old self.new }
     {
         let from = r * self.n;
         scale(&mut self.cells[from..from + self.n], by);
@@ -92,7 +95,8 @@ impl<'a, K: Semiring> System<'a, K> {
     pub(crate) fn add_row(&mut self, r: usize, by: K, p: usize)
         requires row { r < self.old.n }
         requires other { p < self.old.n }
-        ensures { Rewritten K.algebra r self.old.n (added K.algebra self.old r by p) self.old self.new }
+        ensures { let row = added K.algebra self.old r by p in
+            Rewritten K.algebra r self.old.n row self.old self.new }
     {
         // Kept: one slice holds both rows, so two iterators over them need it split at the later.
         for q in 0..self.n {
