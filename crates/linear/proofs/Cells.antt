@@ -33,14 +33,14 @@ row_before r n {i} l = let h : suc r * n ≤ i * n = mul-le-mul_right n l in rw 
 
 module _ {K : Type 0} where
   pub same_slices : (s : System K) → SameSlices s s
-  same_slices s = record { size = refl; cells = refl; column = refl }
+  same_slices s = record { size = refl; grid = refl; column = refl }
 
   pub slices_more : {s s' s'' : System K} → SameSlices s s' → SameSlices s' s'' → SameSlices s s''
-  slices_more h h' = record { size = h'.size ∙ h.size; cells = h'.cells ∙ h.cells; column = h'.column ∙ h.column }
+  slices_more h h' = record { size = h'.size ∙ h.size; grid = h'.grid ∙ h.grid; column = h'.column ∙ h.column }
 
-  pub free_more : {s s' : System K} {cells : List K} → SameSlices s s' → Free s.n s.cells.now s'.cells.now → Free s'.n s'.cells.now cells → Free s.n s.cells.now cells
+  pub free_more : {s s' : System K} {cells : List K} → SameSlices s s' → Free s.n s.grid.now s'.grid.now → Free s'.n s'.grid.now cells → Free s.n s.grid.now cells
   free_more {s} {s'} {cells} same h h' =
-      let past : Free s.n s'.cells.now cells = rw same.size at h' in
+      let past : Free s.n s'.grid.now cells = rw same.size at h' in
       record { size = past.size ∙ h.size; tail = past.tail ∙ h.tail }
 
   pub only_grid_more : {s s' s'' : System K} → OnlyGrid s s' → OnlyGrid s' s'' → OnlyGrid s s''
@@ -90,73 +90,73 @@ module _ {K : Type 0} (k : Algebra K) where
   cell_set_other n cells r j i q w l m apart = get_or-set_other cells (r * n + j) (i * n + q) w k.zero (λ e. apart (same_place n i q r j l m e).0 (same_place n i q r j l m e).1)
 
   -- Equal grids of one size have equal cells.
-  pub cells_same : {s s' : System K} → SameSlices s s' → s'.cells.now ≡ s.cells.now → (r q : ℕ) → cells_of k s' r q ≡ cells_of k s r q
+  pub cells_same : {s s' : System K} → SameSlices s s' → s'.grid.now ≡ s.grid.now → (r q : ℕ) → cells_of k s' r q ≡ cells_of k s r q
   cells_same same grid r q = ap₂ (λ n cells. cell k n cells r q) same.size grid
 
   -- Row r is written as a part of the grid's slice.
-  pub rewritten_part : (s s' : System K) (r m : ℕ) (f : K → K) (row : List K) → r < s.n → SameSlices s s' → s'.column.now ≡ s.column.now → s'.cells.now ≡ put_mid (r * s.n) m s.cells.now row → m ≡ s.n → row ≡ map f (slice_range s.cells.now (r * s.n) (r * s.n + s.n)) → Rewritten k r s.n (λ q. f (cells_of k s r q)) s s'
+  pub rewritten_part : (s s' : System K) (r m : ℕ) (f : K → K) (row : List K) → r < s.n → SameSlices s s' → s'.column.now ≡ s.column.now → s'.grid.now ≡ put_mid (r * s.n) m s.grid.now row → m ≡ s.n → row ≡ map f (slice_range s.grid.now (r * s.n) (r * s.n + s.n)) → Rewritten k r s.n (λ q. f (cells_of k s r q)) s s'
   rewritten_part s s' r m f row l same column is e e' = record {
     done = done;
     rest = rest;
     only = record {
       slices = same;
-      past = record { size = ap length cells ∙ whole; tail = ap (drop (s.n * s.n)) cells ∙ drop-put_mid (r * s.n) s.n s.cells.now (map f part) (s.n * s.n) (row_before r s.n l) room long };
+      past = record { size = ap length cells ∙ whole; tail = ap (drop (s.n * s.n)) cells ∙ drop-put_mid (r * s.n) s.n s.grid.now (map f part) (s.n * s.n) (row_before r s.n l) room long };
       column = column;
     };
   }
     where
-      fits : r * s.n + s.n ≤ length s.cells.now
+      fits : r * s.n + s.n ≤ length s.grid.now
       fits = omega (arith, row_before r s.n l, s.fits.cells)
 
-      room : r * s.n ≤ length s.cells.now
+      room : r * s.n ≤ length s.grid.now
       room = omega (arith, fits)
 
       part : List K
-      part = slice_range s.cells.now (r * s.n) (r * s.n + s.n)
+      part = slice_range s.grid.now (r * s.n) (r * s.n + s.n)
 
       short : length part ≡ s.n
-      short = length-between s.cells.now (r * s.n) (r * s.n + s.n) fits ∙ omega arith
+      short = length-between s.grid.now (r * s.n) (r * s.n + s.n) fits ∙ omega arith
 
       long : length (map f part) ≡ s.n
       long = length-map part f ∙ short
 
-      cells : s'.cells.now ≡ put_mid (r * s.n) s.n s.cells.now (map f part)
-      cells = is ∙ ap₂ (λ m row. put_mid (r * s.n) m s.cells.now row) e e'
+      cells : s'.grid.now ≡ put_mid (r * s.n) s.n s.grid.now (map f part)
+      cells = is ∙ ap₂ (λ m row. put_mid (r * s.n) m s.grid.now row) e e'
 
-      whole : length (put_mid (r * s.n) s.n s.cells.now (map f part)) ≡ length s.cells.now
+      whole : length (put_mid (r * s.n) s.n s.grid.now (map f part)) ≡ length s.grid.now
       whole = search (rules, places, long, fits)
 
-      written : (i q : ℕ) → cells_of k s' i q ≡ get_or (put_mid (r * s.n) s.n s.cells.now (map f part)) (i * s.n + q) k.zero
+      written : (i q : ℕ) → cells_of k s' i q ≡ get_or (put_mid (r * s.n) s.n s.grid.now (map f part)) (i * s.n + q) k.zero
       written i q = ap₂ (λ n cells. cell k n cells i q) same.size cells
 
       done : (q : ℕ) → q < s.n → cells_of k s' r q ≡ f (cells_of k s r q)
-      done q o = written r q ∙ part_here (r * s.n) s.n s.cells.now (map f part) q k.zero o room long ∙ get_or-map f part q k.zero k.zero (omega (arith, short)) ∙ ap f (get_or-between s.cells.now (r * s.n) (r * s.n + s.n) q k.zero (omega arith))
+      done q o = written r q ∙ part_here (r * s.n) s.n s.grid.now (map f part) q k.zero o room long ∙ get_or-map f part q k.zero k.zero (omega (arith, short)) ∙ ap f (get_or-between s.grid.now (r * s.n) (r * s.n + s.n) q k.zero (omega arith))
 
       rest : (i q : ℕ) → i < s.n → q < s.n → (i ≡ r → s.n ≤ q) → cells_of k s' i q ≡ cells_of k s i q
       rest i q o o' apart =
-          written i q ∙ elim (dec_lt i r) [ yes b ↦ part_low (r * s.n) s.n s.cells.now (map f part) (i * s.n + q) k.zero (omega (arith, row_before i s.n b)) room | no d ↦ by_equal i r (λ e. absurd (omega (arith, apart e))) (λ d'. part_high (r * s.n) s.n s.cells.now (map f part) (i * s.n + q) k.zero (let b : r < i = omega arith in omega (arith, row_before r s.n b)) room long) ]
+          written i q ∙ elim (dec_lt i r) [ yes b ↦ part_low (r * s.n) s.n s.grid.now (map f part) (i * s.n + q) k.zero (omega (arith, row_before i s.n b)) room | no d ↦ by_equal i r (λ e. absurd (omega (arith, apart e))) (λ d'. part_high (r * s.n) s.n s.grid.now (map f part) (i * s.n + q) k.zero (let b : r < i = omega arith in omega (arith, row_before r s.n b)) room long) ]
 
   -- One more place of row r.
-  rewritten_more : (s s' s'' : System K) (r j : ℕ) (f : ℕ → K) (w : K) → r < s.n → j < s.n → OnlyGrid s' s'' → s''.cells.now ≡ set s'.cells.now (r * s'.n + j) w → w ≡ f j → Rewritten k r j f s s' → Rewritten k r (j + 1) f s s''
+  rewritten_more : (s s' s'' : System K) (r j : ℕ) (f : ℕ → K) (w : K) → r < s.n → j < s.n → OnlyGrid s' s'' → s''.grid.now ≡ set s'.grid.now (r * s'.n + j) w → w ≡ f j → Rewritten k r j f s s' → Rewritten k r (j + 1) f s s''
   rewritten_more s s' s'' r j f w l m only is e so = record {
-    done = λ q h. by_equal q j (λ t. rw t (written r j ∙ cell_set_same s.n s'.cells.now r j w room l m ∙ e)) (λ d. written r q ∙ cell_set_other s.n s'.cells.now r j r q w (omega arith) m (λ _. d) ∙ sym (here r q) ∙ so.done q (omega arith));
-    rest = λ i q h h' apart. written i q ∙ cell_set_other s.n s'.cells.now r j i q w h' m (λ t d. absurd (omega (arith, apart t))) ∙ sym (here i q) ∙ so.rest i q h h' (λ t. omega (arith, apart t));
+    done = λ q h. by_equal q j (λ t. rw t (written r j ∙ cell_set_same s.n s'.grid.now r j w room l m ∙ e)) (λ d. written r q ∙ cell_set_other s.n s'.grid.now r j r q w (omega arith) m (λ _. d) ∙ sym (here r q) ∙ so.done q (omega arith));
+    rest = λ i q h h' apart. written i q ∙ cell_set_other s.n s'.grid.now r j i q w h' m (λ t d. absurd (omega (arith, apart t))) ∙ sym (here i q) ∙ so.rest i q h h' (λ t. omega (arith, apart t));
     only = only_grid_more so.only only;
   }
     where
       size : s'.n ≡ s.n
       size = so.only.slices.size
 
-      room : s.n * s.n ≤ length s'.cells.now
+      room : s.n * s.n ≤ length s'.grid.now
       room = rw size at s'.fits.cells
 
-      here : (i q : ℕ) → cells_of k s' i q ≡ cell k s.n s'.cells.now i q
-      here i q = ap (λ n. cell k n s'.cells.now i q) size
+      here : (i q : ℕ) → cells_of k s' i q ≡ cell k s.n s'.grid.now i q
+      here i q = ap (λ n. cell k n s'.grid.now i q) size
 
-      written : (i q : ℕ) → cells_of k s'' i q ≡ cell k s.n (set s'.cells.now (r * s.n + j) w) i q
-      written i q = ap₂ (λ n cells. cell k n cells i q) (only.slices.size ∙ size) (is ∙ ap (λ n. set s'.cells.now (r * n + j) w) size)
+      written : (i q : ℕ) → cells_of k s'' i q ≡ cell k s.n (set s'.grid.now (r * s.n + j) w) i q
+      written i q = ap₂ (λ n cells. cell k n cells i q) (only.slices.size ∙ size) (is ∙ ap (λ n. set s'.grid.now (r * n + j) w) size)
 
   -- One more place of a row to which another is added.
-  pub added_more : (s s' s'' : System K) (r j p : ℕ) (by u v t w : K) → r < s.n → p < s.n → j < s.n → OnlyGrid s' s'' → s''.cells.now ≡ set s'.cells.now (r * s'.n + j) w → u ≡ cells_of k s' r j → v ≡ cells_of k s' p j → t ≡ k.times by v → w ≡ k.plus u t → Rewritten k r j (added k s r by p) s s' → Rewritten k r (j + 1) (added k s r by p) s s''
+  pub added_more : (s s' s'' : System K) (r j p : ℕ) (by u v t w : K) → r < s.n → p < s.n → j < s.n → OnlyGrid s' s'' → s''.grid.now ≡ set s'.grid.now (r * s'.n + j) w → u ≡ cells_of k s' r j → v ≡ cells_of k s' p j → t ≡ k.times by v → w ≡ k.plus u t → Rewritten k r j (added k s r by p) s s' → Rewritten k r (j + 1) (added k s r by p) s s''
   added_more s s' s'' r j p by u v t w l l' m only is read read' product sum so =
       rewritten_more s s' s'' r j (added k s r by p) w l m only is (sum ∙ ap₂ k.plus (read ∙ so.rest r j l m (λ e. omega arith)) (product ∙ ap (k.times by) (read' ∙ so.rest p j l' m (λ e. omega arith)))) so

@@ -29,7 +29,7 @@ module _ {K : Type 0} (k : Algebra K) where
     entry : values_of k s' r ≡ w
     entries : (i : ℕ) → i ≢ r → values_of k s' i ≡ values_of k s i
     slices : SameSlices s s'
-    cells : Free s.n s.cells.now s'.cells.now
+    cells : Free s.n s.grid.now s'.grid.now
     places : drop s.n s'.column.now ≡ drop s.n s.column.now
 
   -- A value written.
@@ -44,9 +44,9 @@ module _ {K : Type 0} (k : Algebra K) where
     values_past = rw write (drop-set-lt s.n s.column.now r w l)
 
   -- The cell (r, p) is taken, row r is written, and then its value, which s'' ends with.
-  replaced : (s bare s' s'' : System K) (r p : ℕ) (f : ℕ → K) (w : K) → r < s.n → p < s.n → bare.cells.now ≡ set s.cells.now (r * s.n + p) k.zero → OnlyGrid s bare → Rewritten k r bare.n f bare s' → SameSlices s' s'' → s''.cells.now ≡ s'.cells.now → s''.column.now ≡ set s'.column.now r w → Replaced r p f w s bare s''
+  replaced : (s bare s' s'' : System K) (r p : ℕ) (f : ℕ → K) (w : K) → r < s.n → p < s.n → bare.grid.now ≡ set s.grid.now (r * s.n + p) k.zero → OnlyGrid s bare → Rewritten k r bare.n f bare s' → SameSlices s' s'' → s''.grid.now ≡ s'.grid.now → s''.column.now ≡ set s'.column.now r w → Replaced r p f w s bare s''
   replaced s bare s' s'' r p f w l l' take only row same grid write = record {
-    gone = bare_is r p ∙ cell_set_same k s.n s.cells.now r p k.zero s.fits.cells l l';
+    gone = bare_is r p ∙ cell_set_same k s.n s.grid.now r p k.zero s.fits.cells l l';
     other = other;
     row = λ q o. cells_same k same grid r q ∙ row.done q (omega (arith, size));
     rows = λ i q o o' d. cells_same k same grid i q ∙ row.rest i q (omega (arith, size)) (omega (arith, size)) (λ e. absurd (d e)) ∙ other i q o' (λ e. absurd (d e));
@@ -66,11 +66,11 @@ module _ {K : Type 0} (k : Algebra K) where
       column : s''.column.now ≡ set s.column.now r w
       column = write ∙ ap (λ column. set column r w) both.column
 
-      bare_is : (i q : ℕ) → cells_of k bare i q ≡ cell k s.n (set s.cells.now (r * s.n + p) k.zero) i q
+      bare_is : (i q : ℕ) → cells_of k bare i q ≡ cell k s.n (set s.grid.now (r * s.n + p) k.zero) i q
       bare_is i q = ap₂ (λ n cells. cell k n cells i q) size take
 
       other : (i q : ℕ) → q < s.n → (i ≡ r → q ≢ p) → cells_of k bare i q ≡ cells_of k s i q
-      other i q o apart = bare_is i q ∙ cell_set_other k s.n s.cells.now r p i q k.zero o l' apart
+      other i q o apart = bare_is i q ∙ cell_set_other k s.n s.grid.now r p i q k.zero o l' apart
 
   -- A value read from the column, which is as it was.
   value_read : (s bare s' : System K) (f : ℕ → K) (r p : ℕ) (u : K) → p < s.n → OnlyGrid s bare → Rewritten k r bare.n f bare s' → u ≡ get_or s'.column.now p u → get_or s'.column.now p u ≡ values_of k s p
@@ -79,7 +79,7 @@ module _ {K : Type 0} (k : Algebra K) where
       let is : u ≡ get_or s.column.now p u = rw same at read in
       sym read ∙ get_or_read s.column.now p u (omega (arith, s.fits.places)) is k.zero
 
-  pub removed_here : (s bare s' s'' : System K) (p : ℕ) (c b u v : K) → p < s.n → Cleared k s.n p p (cells_of k s) → c ≡ cells_of k s p p → bare.cells.now ≡ set s.cells.now (p * s.n + p) k.zero → OnlyGrid s bare → b ≡ k.star c → Rewritten k p bare.n (scaled k bare p b) bare s' → u ≡ get_or s'.column.now p u → v ≡ k.times b (get_or s'.column.now p u) → SameSlices s' s'' → s''.cells.now ≡ s'.cells.now → s''.column.now ≡ set s'.column.now p v → Removed k p (p + 1) s s''
+  pub removed_here : (s bare s' s'' : System K) (p : ℕ) (c b u v : K) → p < s.n → Cleared k s.n p p (cells_of k s) → c ≡ cells_of k s p p → bare.grid.now ≡ set s.grid.now (p * s.n + p) k.zero → OnlyGrid s bare → b ≡ k.star c → Rewritten k p bare.n (scaled k bare p b) bare s' → u ≡ get_or s'.column.now p u → v ≡ k.times b (get_or s'.column.now p u) → SameSlices s' s'' → s''.grid.now ≡ s'.grid.now → s''.column.now ≡ set s'.column.now p v → Removed k p (p + 1) s s''
   removed_here s bare s' s'' p c b u v l clear was take only star row read product same grid write = record {
     refines = refines_scaled k s.n (cells_of k s) (cells_of k s'') (values_of k s) (values_of k s'') (cells_of k bare p) p l so.gone (λ q o d. so.other p q o (λ e. d)) (λ q o. so.row q o ∙ ap (λ t. k.times t (cells_of k bare p q)) pivot) (so.entry ∙ product ∙ ap₂ k.times pivot (value_read s bare s' (scaled k bare p b) p p u l only row read)) so.rows so.entries;
     cleared = record {
@@ -97,7 +97,7 @@ module _ {K : Type 0} (k : Algebra K) where
       pivot : b ≡ k.star (cells_of k s p p)
       pivot = star ∙ ap k.star was
 
-  pub removed_below : (s bare s' s'' : System K) (p i : ℕ) (c u u' v t : K) → p < i → i < s.n → Cleared k s.n p i (cells_of k s) → c ≡ cells_of k s i p → bare.cells.now ≡ set s.cells.now (i * s.n + p) k.zero → OnlyGrid s bare → Rewritten k i bare.n (added k bare i c p) bare s' → u ≡ get_or s'.column.now i u → u' ≡ get_or s'.column.now p u' → v ≡ k.times c (get_or s'.column.now p u') → t ≡ k.plus (get_or s'.column.now i u) v → SameSlices s' s'' → s''.cells.now ≡ s'.cells.now → s''.column.now ≡ set s'.column.now i t → Removed k p (i + 1) s s''
+  pub removed_below : (s bare s' s'' : System K) (p i : ℕ) (c u u' v t : K) → p < i → i < s.n → Cleared k s.n p i (cells_of k s) → c ≡ cells_of k s i p → bare.grid.now ≡ set s.grid.now (i * s.n + p) k.zero → OnlyGrid s bare → Rewritten k i bare.n (added k bare i c p) bare s' → u ≡ get_or s'.column.now i u → u' ≡ get_or s'.column.now p u' → v ≡ k.times c (get_or s'.column.now p u') → t ≡ k.plus (get_or s'.column.now i u) v → SameSlices s' s'' → s''.grid.now ≡ s'.grid.now → s''.column.now ≡ set s'.column.now i t → Removed k p (i + 1) s s''
   removed_below s bare s' s'' p i c u u' v t b l clear was take only row read read' product sum same grid write = record {
     refines = refines_added k s.n (cells_of k s) (cells_of k s'') (values_of k s) (values_of k s'') (cells_of k bare i) p i p<n l (omega arith) so.gone (λ q o d. so.other i q o (λ e. d)) (λ q o. so.row q o ∙ ap₂ (λ x y. k.plus (cells_of k bare i q) (k.times x y)) was (so.other p q o (λ e. absurd (omega arith)))) (so.entry ∙ sum ∙ ap₂ k.plus (value_read s bare s' (added k bare i c p) i i u l only row read) (product ∙ ap₂ k.times was (value_read s bare s' (added k bare i c p) i p u' p<n only row read'))) so.rows so.entries;
     cleared = record {
@@ -125,7 +125,7 @@ module _ {K : Type 0} (k : Algebra K) where
   }
 
   -- With the last unknown removed, the values put back are what a solver leaves.
-  pub leaves_back : (s s' s'' : System K) (cells column : List K) → cells ≡ s''.cells.now → column ≡ s''.column.now → Removed k s.n s.n s s' → Least k s'.n (cells_of k s') (values_of k s') (values_of k s'') → OnlyColumn s' s'' → Leaves k s.n s.cells.now s.column.now cells column
+  pub leaves_back : (s s' s'' : System K) (cells column : List K) → cells ≡ s''.grid.now → column ≡ s''.column.now → Removed k s.n s.n s s' → Least k s'.n (cells_of k s') (values_of k s') (values_of k s'') → OnlyColumn s' s'' → Leaves k s.n s.grid.now s.column.now cells column
   leaves_back s s' s'' cells column same same' so least only =
       let least' : Least k s.n (cells_of k s') (values_of k s') (values_of k s'') = subst (λ n. Least k n (cells_of k s') (values_of k s') (values_of k s'')) so.slices.size least in
       let tail : drop s.n s''.column.now ≡ drop s.n s'.column.now = rw so.slices.size at only.past in

@@ -32,5 +32,5 @@ pub record Removed {K : Type 0} (k : Algebra K) (p i : ℕ) (s s' : System K) : 
   pub refines : Refines k s.n (cells_of k s) (values_of k s) (cells_of k s') (values_of k s')
   pub cleared : Cleared k s.n p i (cells_of k s')
   pub slices : SameSlices s s'
-  pub cells : Free s.n s.cells.now s'.cells.now
+  pub cells : Free s.n s.grid.now s'.grid.now
   pub places : drop s.n s'.column.now ≡ drop s.n s.column.now

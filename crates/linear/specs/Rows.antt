@@ -8,24 +8,24 @@ module _ {K : Type 0} where
   -- Both have as many unknowns, and lie in the same two slices.
   pub record SameSlices (s s' : System K) : Type 0 where
     pub size : s'.n ≡ s.n
-    pub cells : s'.cells.ghost_name ≡ s.cells.ghost_name
+    pub grid : s'.grid.ghost_name ≡ s.grid.ghost_name
     pub column : s'.column.ghost_name ≡ s.column.ghost_name
 
   -- Only the grid is written, and only in its first n × n places.
   pub record OnlyGrid (s s' : System K) : Type 0 where
     pub slices : SameSlices s s'
-    pub past : Free s.n s.cells.now s'.cells.now
+    pub past : Free s.n s.grid.now s'.grid.now
     pub column : s'.column.now ≡ s.column.now
 
   -- Only the column is written, and only in its first n places.
   pub record OnlyColumn (s s' : System K) : Type 0 where
     pub slices : SameSlices s s'
     pub past : drop s.n s'.column.now ≡ drop s.n s.column.now
-    pub grid : s'.cells.now ≡ s.cells.now
+    pub grid : s'.grid.now ≡ s.grid.now
 
 module _ {K : Type 0} (k : Algebra K) where
   abbrev pub cells_of : System K → ℕ → ℕ → K
-  cells_of s = cell k s.n s.cells.now
+  cells_of s = cell k s.n s.grid.now
 
   abbrev pub values_of : System K → ℕ → K
   values_of s = entry_at k s.column.now

@@ -67,8 +67,8 @@ impl<K: Semiring> System<'_, K> {
 pub struct Closing;
 
 impl Method for Closing {
-    fn run<K: Semiring>(n: usize, cells: &mut [K], column: &mut [K]) {
-        let mut system = System { n, cells, column };
+    fn run<K: Semiring>(n: usize, grid: &mut [K], column: &mut [K]) {
+        let mut system = System { n, grid, column };
         system.form();
         system.multiply();
     }

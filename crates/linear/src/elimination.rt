@@ -71,8 +71,8 @@ impl<K: Semiring> System<'_, K> {
 pub struct Eliminating;
 
 impl Method for Eliminating {
-    fn run<K: Semiring>(n: usize, cells: &mut [K], column: &mut [K]) {
-        let mut system = System { n, cells, column };
+    fn run<K: Semiring>(n: usize, grid: &mut [K], column: &mut [K]) {
+        let mut system = System { n, grid, column };
         system.remove_all();
         system.put_back();
     }

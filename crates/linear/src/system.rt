@@ -24,16 +24,17 @@ fn sum_of_products<K: Semiring>(row: &[K], column: &[K]) -> K
     )
 }
 
-// n unknowns, the grid as n rows with n places each, one behind the other, and the column.
+// n unknowns, the grid as n rows of n places each over the first n × n places of a lent slice, and
+// the column over the first n places of another.
 #[derive(Drop)]
 pub(crate) struct System<'a, K> {
     pub n: usize,
-    pub cells: &'a mut [K],
+    pub grid: &'a mut [K],
     pub column: &'a mut [K],
-    ghost fits: { Fits n cells.now column.now },
+    ghost fits: { Fits n grid.now column.now },
 }
 
-impl<'a, K: Semiring> System<'a, K> {
+impl<K: Semiring> System<'_, K> {
     ghost use Rattle.linear.specs.Rows.{OnlyGrid, OnlyColumn, Rewritten};
     ghost use Rattle.linear.specs.Rows.{cells_of, row_value, scaled, added};
 
@@ -53,18 +54,18 @@ impl<'a, K: Semiring> System<'a, K> {
         requires place { q < self.now.n }
         ensures { result ≡ cells_of K.algebra self.now r q }
     {
-        self.cells[self.place(r, q)]
+        self.grid[self.place(r, q)]
     }
 
     fn put(&mut self, r: usize, q: usize, weight: K)
         requires row { r < self.old.n }
         requires place { q < self.old.n }
-        ensures cell { self.new.cells.now
-            ≡ slice_set self.old.cells.now (r * self.old.n + q) weight }
+        ensures cell { self.new.grid.now
+            ≡ slice_set self.old.grid.now (r * self.old.n + q) weight }
         ensures only { OnlyGrid self.old self.new }
     {
         let i = self.place(r, q);
-        self.cells[i] = weight;
+        self.grid[i] = weight;
     }
 
     // The weight in row r, place q, for which it leaves zero.
@@ -72,8 +73,8 @@ impl<'a, K: Semiring> System<'a, K> {
         requires row { r < self.old.n }
         requires place { q < self.old.n }
         ensures was { result ≡ cells_of K.algebra self.old r q }
-        ensures cell { self.new.cells.now
-            ≡ slice_set self.old.cells.now (r * self.old.n + q) K.algebra.zero }
+        ensures cell { self.new.grid.now
+            ≡ slice_set self.old.grid.now (r * self.old.n + q) K.algebra.zero }
         ensures only { OnlyGrid self.old self.new }
     {
         let weight = self.at(r, q);
@@ -88,7 +89,7 @@ impl<'a, K: Semiring> System<'a, K> {
             Rewritten K.algebra r self.old.n row self.old self.new }
     {
         let from = r * self.n;
-        scale(&mut self.cells[from..from + self.n], by);
+        scale(&mut self.grid[from..from + self.n], by);
     }
 
     // Adds row p, multiplied by a weight, to row r.
@@ -111,7 +112,7 @@ impl<'a, K: Semiring> System<'a, K> {
         ensures { result ≡ row_value K.algebra self.now r }
     {
         let from = r * self.n;
-        let row = &self.cells[from..from + self.n];
+        let row = &self.grid[from..from + self.n];
         sum_of_products(row, self.column).sum(self.column[r])
     }
 
