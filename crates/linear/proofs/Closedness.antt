@@ -1,6 +1,6 @@
 -- Kleene's scheme forms all ways of a grid, and the product of its star with the column is the
 -- least solution.
-use Rattle.std.proofs.Common.{◌≡◌, ℕ, ◌+◌, ◌<◌, ◌≤◌, ◌≢◌, sym, refl, ap, ◌∙◌, subst, ap₂, arith}
+use Rattle.std.proofs.Common.{◌≡◌, ℕ, ◌+◌, ◌<◌, ◌≤◌, ◌≢◌, sym, ap, ◌∙◌, subst, ap₂, arith}
 use native.Mathlib.Decide.{dec_lt}
 use Rattle.semiring.specs.Algebra.{Algebra, Under}
 use Rattle.semiring.specs.Sums.{sum_to}
@@ -14,13 +14,6 @@ use Rattle.linear.proofs.Cells.{by_equal}
 use Rattle.linear.proofs.Existence.{least_same}
 
 module _ {K : Type 0} (k : Algebra K) (n : ℕ) where
-  pub closed_none : (a : ℕ → ℕ → K) → Closed k n 0 a a
-  closed_none a = record {
-    entries = λ i j l m. k.laws.plus_idem (a i j);
-    joined = λ i m j l o h. absurd (omega arith);
-    kept = λ y h. h;
-  }
-
   -- A product of two sums lies under c where all four products of their parts do.
   four_under : {a b u v c : K} → Under k (k.times a u) c → Under k (k.times a v) c → Under k (k.times b u) c → Under k (k.times b v) c → Under k (k.times (k.plus a b) (k.plus u v)) c
   four_under {a} {b} {u} {v} {c} p q r t =
@@ -126,9 +119,6 @@ module _ {K : Type 0} (k : Algebra K) (n : ℕ) where
   pub record Multiplied (p : ℕ) (g : ℕ → ℕ → K) (b v : ℕ → K) : Type 0 where
     pub low : (r : ℕ) → r < p → v r ≡ right_side k n g b b r
     pub high : (r : ℕ) → p ≤ r → v r ≡ b r
-
-  pub multiplied_none : (g : ℕ → ℕ → K) (b : ℕ → K) → Multiplied 0 g b b
-  multiplied_none g b = record { low = λ r l. absurd (omega arith); high = λ r l. refl }
 
   module _ (p : ℕ) (a g : ℕ → ℕ → K) (b v : ℕ → K) (within : p < n) (h : Closed k n n a g) (so : Multiplied p g b v) where
     between : (q : ℕ) → Under k (b q) (v q) × Under k (v q) (right_side k n g b b q)

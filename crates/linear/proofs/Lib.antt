@@ -2,5 +2,5 @@ pub mod Existence
 mod Cells
 mod Refinement
 mod Closedness
-mod Steps
 mod Uniqueness
+mod Steps

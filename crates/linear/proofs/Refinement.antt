@@ -1,6 +1,6 @@
 -- Removal of an unknown keeps the least solution, and the values put back from the last row up are
 -- that solution.
-use Rattle.std.proofs.Common.{◌≡◌, ℕ, suc, ◌+◌, ◌<◌, ◌≤◌, ◌≢◌, sym, refl, ap, ◌∙◌, subst, ap₂, arith}
+use Rattle.std.proofs.Common.{◌≡◌, ℕ, suc, ◌<◌, ◌≤◌, ◌≢◌, sym, ap, ◌∙◌, subst, ap₂, arith}
 use Rattle.semiring.specs.Algebra.{Algebra, Under}
 use Rattle.semiring.specs.Sums.{sum_to}
 use Rattle.semiring.proofs.Dioid.{dioid}
@@ -8,13 +8,10 @@ use Rattle.semiring.proofs.Order
 use Rattle.semiring.proofs.Star
 use Rattle.semiring.proofs.Sums
 use Rattle.linear.specs.System.{right_side, Least}
-use Rattle.linear.specs.Removal.{Above, Refines, Cleared}
+use Rattle.linear.specs.Removal.{Above, Refines}
 use Rattle.linear.proofs.Cells.{by_equal}
 
 module _ {K : Type 0} (k : Algebra K) (n : ℕ) where
-  pub refines_refl : (a : ℕ → ℕ → K) (b : ℕ → K) → Refines k n a b a b
-  refines_refl a b = record { above = λ y h. h; solves = λ x h. h }
-
   pub refines_trans : {a a' a'' : ℕ → ℕ → K} {b b' b'' : ℕ → K} → Refines k n a b a' b' → Refines k n a' b' a'' b'' → Refines k n a b a'' b''
   refines_trans p q = record { above = λ y h. q.above y (p.above y h); solves = λ x h. p.solves x (q.solves x h) }
 
@@ -85,28 +82,11 @@ module _ {K : Type 0} (k : Algebra K) (n : ℕ) where
           Sums.sum_to_ext k _ (λ q. k.plus (k.times (z q) (y q)) (k.times (a i p) (k.times (a p q) (y q)))) n (λ q m. ap (λ c. k.times c (y q)) (row q m) ∙ spread (z q) (a i p) (a p q) (y q)) ∙ Sums.sum_to_plus k _ _ n ∙ ap (k.plus u) (sym (Sums.sum_to_times k (a i p) _ n)) in
           ap₂ k.plus parted entry ∙ crossed u (k.times (a i p) v) (b i) (k.times (a i p) (b p)) ∙ ap (λ t. k.plus t (k.plus u (b i))) (sym (k.laws.times_plus (a i p) v (b p)))
 
-  -- The next unknown.
-  pub cleared_next : (p i : ℕ) (a : ℕ → ℕ → K) → n ≤ i → Cleared k n p i a → Cleared k n (p + 1) (p + 1) a
-  cleared_next p i a all h = record {
-    before = λ r q l m o. by_equal q p (λ e. rw e (h.here r (omega arith) (omega arith))) (λ d. h.before r q l (omega arith) o);
-    here = λ r l m. absurd (omega arith);
-  }
-
   -- How far the values are put back: those from p on solve their rows, the others are as they were.
   pub record Back (p : ℕ) (a : ℕ → ℕ → K) (c v : ℕ → K) : Type 0 where
     pub low : (r : ℕ) → r < p → v r ≡ c r
     pub high : (r : ℕ) → p ≤ r → r < n → v r ≡ right_side k n a c v r
     pub under : (y : ℕ → K) → Above k n a c y → (r : ℕ) → r < n → Under k (v r) (y r)
-
-  pub back_none : (a : ℕ → ℕ → K) (c : ℕ → K) → Back n a c c
-  back_none a c = record {
-    low = λ r l. refl;
-    high = λ r l m. absurd (omega arith);
-    under = λ y h r l. (Order.plus_parts (dioid k) (h r l)).1;
-  }
-
-  pub back_all : (a : ℕ → ℕ → K) (c v : ℕ → K) → Back 0 a c v → Least k n a c v
-  back_all a c v h = record { solves = λ r l. h.high r (omega arith) l; least = h.under }
 
   pub back_more : (p : ℕ) (a : ℕ → ℕ → K) (c v v' : ℕ → K) → p < n → ((r q : ℕ) → r < n → q < n → q ≤ r → a r q ≡ k.zero) → v' p ≡ right_side k n a v v p → ((r : ℕ) → r ≢ p → v' r ≡ v r) → Back (suc p) a c v → Back p a c v'
   back_more p a c v v' l upper here other h = record {

@@ -1,232 +1,188 @@
--- The steps of the two solvers, from what the row operations leave in the slices.
-use Rattle.std.proofs.Common.{◌≡◌, ℕ, suc, ◌+◌, ◌-◌, ◌*◌, ◌<◌, ◌≤◌, ◌≢◌, List, length, drop, set, sym, refl, ap, ◌∙◌, subst, ap₂, arith, get_or-set_other, get_or-set_same, drop-set-lt}
+-- The steps of the two solvers, from what the row operations leave.
+use Rattle.std.proofs.Common.{◌≡◌, ℕ, suc, ◌+◌, ◌-◌, ◌*◌, ◌<◌, ◌≤◌, ◌≢◌, List, get_or, drop, set, sym, ap, ◌∙◌, subst, ap₂, arith, get_or-set_other, get_or-set_same, drop-set-lt}
+use Rattle.std.proofs.lemmas.List.{get_or_read}
 use native.Mathlib.Decide.{dec_lt}
 use Rattle.semiring.specs.Algebra.{Algebra}
 use Rattle.semiring.proofs.Star
-use Rattle.linear.specs.System.{cell, entry_at, right_side, Least, Free, Leaves}
-use Rattle.linear.specs.Rows.{Square, Rewritten, scaled, added}
+use Rattle.linear.specs.declared.system.System.{System}
+use Rattle.linear.specs.System.{cell, right_side, Least, Free, Leaves}
+use Rattle.linear.specs.Rows.{SameSlices, OnlyGrid, OnlyColumn, Rewritten, cells_of, values_of, row_value, scaled, added}
 use Rattle.linear.specs.Kleene.{Passed, Stepped, Closed}
-use Rattle.linear.specs.Removal.{Cleared, Removed}
-use Rattle.linear.proofs.Cells.{by_equal, cell_set_same, cell_set_other, free_none, free_more, free_set, square_free}
-use Rattle.linear.proofs.Closedness.{closed_none, closed_more, Multiplied, multiplied_none, multiplied_more, multiplied_all}
-use Rattle.linear.proofs.Refinement.{refines_refl, refines_trans, refines_least, refines_scaled, refines_added, cleared_next, Back, back_none, back_more, back_all}
+use Rattle.linear.specs.Removal.{Refines, Cleared, Removed}
+use Rattle.linear.proofs.Cells.{by_equal, cell_set_same, cell_set_other, cells_same, slices_more, free_more, only_grid_more}
+use Rattle.linear.proofs.Closedness.{closed_more, Multiplied, multiplied_more}
+use Rattle.linear.proofs.Refinement.{refines_trans, refines_least, refines_scaled, refines_added, Back, back_more}
 
-module _ {K : Type 0} (k : Algebra K) (n : ℕ) where
+module _ {K : Type 0} (k : Algebra K) where
   zero_row : (s u : K) → u ≡ k.zero → k.times s u ≡ k.zero
   zero_row s u e = ap (k.times s) e ∙ k.laws.times_zero s
 
   zero_sum : (c u v : K) → u ≡ k.zero → v ≡ k.zero → k.plus u (k.times c v) ≡ k.zero
   zero_sum c u v e e' = ap₂ k.plus e (zero_row c v e') ∙ k.laws.plus_idem k.zero
 
-  -- The cell (r, p) of a grid set to zero, and then row r rewritten to f, in a grid whose size is
-  -- m, which is n.
-  module _ (m r p : ℕ) (size : m ≡ n) (grid bare grid' : List K) (f : ℕ → K) (h : Square n grid) (l : r < n) (l' : p < n) (take : bare ≡ set grid (r * n + p) k.zero) (row : Rewritten k m r m f bare grid') where
-    bare_gone : cell k n bare r p ≡ k.zero
-    bare_gone = rw take (cell_set_same k n grid r p k.zero h.room l l')
+  -- Row r ends as f, and its value as w. For f there is bare, which is s with the cell (r, p) zero.
+  record Replaced (r p : ℕ) (f : ℕ → K) (w : K) (s bare s' : System K) : Type 0 where
+    gone : cells_of k bare r p ≡ k.zero
+    other : (i q : ℕ) → q < s.n → (i ≡ r → q ≢ p) → cells_of k bare i q ≡ cells_of k s i q
+    row : (q : ℕ) → q < s.n → cells_of k s' r q ≡ f q
+    rows : (i q : ℕ) → i < s.n → q < s.n → i ≢ r → cells_of k s' i q ≡ cells_of k s i q
+    entry : values_of k s' r ≡ w
+    entries : (i : ℕ) → i ≢ r → values_of k s' i ≡ values_of k s i
+    slices : SameSlices s s'
+    cells : Free s.n s.grid.now s'.grid.now
+    places : drop s.n s'.column.now ≡ drop s.n s.column.now
 
-    bare_other : (i q : ℕ) → q < n → (i ≡ r → q ≢ p) → cell k n bare i q ≡ cell k n grid i q
-    bare_other i q o apart = rw take (cell_set_other k n grid r p i q k.zero o l' apart)
+  -- A value written.
+  module _ (s s' : System K) (r : ℕ) (w : K) (l : r < s.n) (write : s'.column.now ≡ set s.column.now r w) where
+    value_here : values_of k s' r ≡ w
+    value_here = rw write (get_or-set_same s.column.now r w k.zero (omega (arith, s.fits.places)))
 
-    row_is : (q : ℕ) → q < n → cell k n grid' r q ≡ f q
-    row_is = let so : Rewritten k n r n f bare grid' = rw size at row in so.done
+    value_other : (i : ℕ) → i ≢ r → values_of k s' i ≡ values_of k s i
+    value_other i d = rw write (get_or-set_other s.column.now r i w k.zero d)
 
-    rows_are : (i q : ℕ) → i < n → q < n → i ≢ r → cell k n grid' i q ≡ cell k n grid i q
-    rows_are i q o o' d = let so : Rewritten k n r n f bare grid' = rw size at row in so.rest i q o o' (λ e. absurd (d e)) ∙ bare_other i q o' (λ e. absurd (d e))
+    values_past : drop s.n s'.column.now ≡ drop s.n s.column.now
+    values_past = rw write (drop-set-lt s.n s.column.now r w l)
 
-    cells_are : Free n grid grid'
-    cells_are = let so : Rewritten k n r n f bare grid' = rw size at row in free_more n (subst (Free n grid) (sym take) (free_set k n grid r p k.zero l l')) so.past
-
-  module _ (column column' : List K) (r : ℕ) (w : K) (write : column' ≡ set column r w) where
-    entry_here : r < length column → entry_at k column' r ≡ w
-    entry_here l = rw write (get_or-set_same column r w k.zero l)
-
-    entry_other : (i : ℕ) → i ≢ r → entry_at k column' i ≡ entry_at k column i
-    entry_other i d = rw write (get_or-set_other column r i w k.zero d)
-
-    pub places_are : r < n → drop n column' ≡ drop n column
-    places_are l = rw write (drop-set-lt n column r w l)
-
-  pub removed_here : (m p : ℕ) → m ≡ n → (grid bare grid' column column' : List K) (w s u v : K) → Square n grid → p < n → n ≤ length column → Cleared k n p p (cell k n grid) → w ≡ cell k n grid p p → bare ≡ set grid (p * n + p) k.zero → s ≡ k.star w → Rewritten k m p m (scaled k m bare p s) bare grid' → u ≡ entry_at k column p → v ≡ k.times s u → column' ≡ set column p v → Removed k n p (p + 1) grid column grid' column'
-  removed_here m p size grid bare grid' column column' w s u v h l fits clear was take star row read product write = record {
-    refines = refines_scaled k n (cell k n grid) (cell k n grid') (entry_at k column) (entry_at k column') (cell k n bare p) p l gone (λ q o d. other p q o (λ e. d)) (λ q o. row' q o ∙ ap (λ t. k.times t (cell k n bare p q)) pivot) (entry_here column column' p v write (omega arith) ∙ product ∙ ap₂ k.times pivot read) rows (entry_other column column' p v write);
-    cleared = record {
-      before = λ r q o o' b. by_equal r p (λ e. rw e (row' q (omega arith) ∙ zero_row s _ (other p q (omega arith) (λ _. omega arith) ∙ clear.before p q l o' (omega arith)))) (λ d. rows r q o (omega arith) d ∙ clear.before r q o o' b);
-      here = λ r o o'. let e : r ≡ p = omega arith in rw e (row' p l ∙ zero_row s _ gone);
-    };
-    cells = cells_are m p p size grid bare grid' (scaled k m bare p s) h l l take row;
-    places = places_are column column' p v write l;
+  -- The cell (r, p) is taken, row r is written, and then its value, which s'' ends with.
+  replaced : (s bare s' s'' : System K) (r p : ℕ) (f : ℕ → K) (w : K) → r < s.n → p < s.n → bare.grid.now ≡ set s.grid.now (r * s.n + p) k.zero → OnlyGrid s bare → Rewritten k r bare.n f bare s' → SameSlices s' s'' → s''.grid.now ≡ s'.grid.now → s''.column.now ≡ set s'.column.now r w → Replaced r p f w s bare s''
+  replaced s bare s' s'' r p f w l l' take only row same grid write = record {
+    gone = bare_is r p ∙ cell_set_same k s.n s.grid.now r p k.zero s.fits.cells l l';
+    other = other;
+    row = λ q o. cells_same k same grid r q ∙ row.done q (omega (arith, size));
+    rows = λ i q o o' d. cells_same k same grid i q ∙ row.rest i q (omega (arith, size)) (omega (arith, size)) (λ e. absurd (d e)) ∙ other i q o' (λ e. absurd (d e));
+    entry = value_here s s'' r w l column;
+    entries = value_other s s'' r w l column;
+    slices = slices_more both.slices same;
+    cells = rw grid both.past;
+    places = values_past s s'' r w l column;
   }
     where
-      pivot : s ≡ k.star (cell k n grid p p)
+      size : bare.n ≡ s.n
+      size = only.slices.size
+
+      both : OnlyGrid s s'
+      both = only_grid_more only row.only
+
+      column : s''.column.now ≡ set s.column.now r w
+      column = write ∙ ap (λ column. set column r w) both.column
+
+      bare_is : (i q : ℕ) → cells_of k bare i q ≡ cell k s.n (set s.grid.now (r * s.n + p) k.zero) i q
+      bare_is i q = ap₂ (λ n cells. cell k n cells i q) size take
+
+      other : (i q : ℕ) → q < s.n → (i ≡ r → q ≢ p) → cells_of k bare i q ≡ cells_of k s i q
+      other i q o apart = bare_is i q ∙ cell_set_other k s.n s.grid.now r p i q k.zero o l' apart
+
+  -- A value read from the column, which is as it was.
+  value_read : (s bare s' : System K) (f : ℕ → K) (r p : ℕ) (u : K) → p < s.n → OnlyGrid s bare → Rewritten k r bare.n f bare s' → u ≡ get_or s'.column.now p u → get_or s'.column.now p u ≡ values_of k s p
+  value_read s bare s' f r p u l only row read =
+      let same : s'.column.now ≡ s.column.now = row.only.column ∙ only.column in
+      let is : u ≡ get_or s.column.now p u = rw same at read in
+      sym read ∙ get_or_read s.column.now p u (omega (arith, s.fits.places)) is k.zero
+
+  pub removed_here : (s bare s' s'' : System K) (p : ℕ) (c b u v : K) → p < s.n → Cleared k s.n p p (cells_of k s) → c ≡ cells_of k s p p → bare.grid.now ≡ set s.grid.now (p * s.n + p) k.zero → OnlyGrid s bare → b ≡ k.star c → Rewritten k p bare.n (scaled k bare p b) bare s' → u ≡ get_or s'.column.now p u → v ≡ k.times b (get_or s'.column.now p u) → SameSlices s' s'' → s''.grid.now ≡ s'.grid.now → s''.column.now ≡ set s'.column.now p v → Removed k p (p + 1) s s''
+  removed_here s bare s' s'' p c b u v l clear was take only star row read product same grid write = record {
+    refines = refines_scaled k s.n (cells_of k s) (cells_of k s'') (values_of k s) (values_of k s'') (cells_of k bare p) p l so.gone (λ q o d. so.other p q o (λ e. d)) (λ q o. so.row q o ∙ ap (λ t. k.times t (cells_of k bare p q)) pivot) (so.entry ∙ product ∙ ap₂ k.times pivot (value_read s bare s' (scaled k bare p b) p p u l only row read)) so.rows so.entries;
+    cleared = record {
+      before = λ r q o o' h. by_equal r p (λ e. rw e (so.row q (omega arith) ∙ zero_row b _ (so.other p q (omega arith) (λ _. omega arith) ∙ clear.before p q l o' (omega arith)))) (λ d. so.rows r q o (omega arith) d ∙ clear.before r q o o' h);
+      here = λ r o o'. let e : r ≡ p = omega arith in rw e (so.row p l ∙ zero_row b _ so.gone);
+    };
+    slices = so.slices;
+    cells = so.cells;
+    places = so.places;
+  }
+    where
+      so : Replaced p p (scaled k bare p b) v s bare s''
+      so = replaced s bare s' s'' p p (scaled k bare p b) v l l take only row same grid write
+
+      pivot : b ≡ k.star (cells_of k s p p)
       pivot = star ∙ ap k.star was
 
-      gone : cell k n bare p p ≡ k.zero
-      gone = bare_gone m p p size grid bare grid' (scaled k m bare p s) h l l take row
-
-      other : (i q : ℕ) → q < n → (i ≡ p → q ≢ p) → cell k n bare i q ≡ cell k n grid i q
-      other = bare_other m p p size grid bare grid' (scaled k m bare p s) h l l take row
-
-      row' : (q : ℕ) → q < n → cell k n grid' p q ≡ k.times s (cell k n bare p q)
-      row' q o = row_is m p p size grid bare grid' (scaled k m bare p s) h l l take row q o ∙ ap (λ m. scaled k m bare p s q) size
-
-      rows : (i q : ℕ) → i < n → q < n → i ≢ p → cell k n grid' i q ≡ cell k n grid i q
-      rows = rows_are m p p size grid bare grid' (scaled k m bare p s) h l l take row
-
-  pub removed_below : (m p i : ℕ) → m ≡ n → (grid bare grid' column column' : List K) (c u u' v t : K) → Square n grid → p < i → i < n → n ≤ length column → Cleared k n p i (cell k n grid) → c ≡ cell k n grid i p → bare ≡ set grid (i * n + p) k.zero → Rewritten k m i m (added k m bare i c p) bare grid' → u ≡ entry_at k column i → u' ≡ entry_at k column p → v ≡ k.times c u' → t ≡ k.plus u v → column' ≡ set column i t → Removed k n p (i + 1) grid column grid' column'
-  removed_below m p i size grid bare grid' column column' c u u' v t h b l fits clear was take row read read' product sum write = record {
-    refines = refines_added k n (cell k n grid) (cell k n grid') (entry_at k column) (entry_at k column') (cell k n bare i) p i p<n l (omega arith) gone (λ q o d. other i q o (λ e. d)) (λ q o. row' q o ∙ ap₂ (λ x y. k.plus (cell k n bare i q) (k.times x y)) was (other p q o (λ e. absurd (omega arith)))) (entry_here column column' i t write (omega arith) ∙ sum ∙ ap₂ k.plus read (product ∙ ap₂ k.times was read')) rows (entry_other column column' i t write);
+  pub removed_below : (s bare s' s'' : System K) (p i : ℕ) (c u u' v t : K) → p < i → i < s.n → Cleared k s.n p i (cells_of k s) → c ≡ cells_of k s i p → bare.grid.now ≡ set s.grid.now (i * s.n + p) k.zero → OnlyGrid s bare → Rewritten k i bare.n (added k bare i c p) bare s' → u ≡ get_or s'.column.now i u → u' ≡ get_or s'.column.now p u' → v ≡ k.times c (get_or s'.column.now p u') → t ≡ k.plus (get_or s'.column.now i u) v → SameSlices s' s'' → s''.grid.now ≡ s'.grid.now → s''.column.now ≡ set s'.column.now i t → Removed k p (i + 1) s s''
+  removed_below s bare s' s'' p i c u u' v t b l clear was take only row read read' product sum same grid write = record {
+    refines = refines_added k s.n (cells_of k s) (cells_of k s'') (values_of k s) (values_of k s'') (cells_of k bare i) p i p<n l (omega arith) so.gone (λ q o d. so.other i q o (λ e. d)) (λ q o. so.row q o ∙ ap₂ (λ x y. k.plus (cells_of k bare i q) (k.times x y)) was (so.other p q o (λ e. absurd (omega arith)))) (so.entry ∙ sum ∙ ap₂ k.plus (value_read s bare s' (added k bare i c p) i i u l only row read) (product ∙ ap₂ k.times was (value_read s bare s' (added k bare i c p) i p u' p<n only row read'))) so.rows so.entries;
     cleared = record {
-      before = λ r q o o' b'. by_equal r i (λ e. rw e (row' q (omega arith) ∙ zero_sum c _ _ (other i q (omega arith) (λ _. omega arith) ∙ clear.before i q l o' (omega arith)) (other p q (omega arith) (λ e. absurd (omega arith)) ∙ clear.before p q p<n o' (omega arith)))) (λ d. rows r q o (omega arith) d ∙ clear.before r q o o' b');
-      here = λ r o o'. by_equal r i (λ e. rw e (row' p p<n ∙ zero_sum c _ _ gone (other p p p<n (λ e. absurd (omega arith)) ∙ clear.here p (omega arith) b))) (λ d. rows r p (omega arith) p<n d ∙ clear.here r o (omega arith));
+      before = λ r q o o' h. by_equal r i (λ e. rw e (so.row q (omega arith) ∙ zero_sum c _ _ (so.other i q (omega arith) (λ _. omega arith) ∙ clear.before i q l o' (omega arith)) (so.other p q (omega arith) (λ e. absurd (omega arith)) ∙ clear.before p q p<n o' (omega arith)))) (λ d. so.rows r q o (omega arith) d ∙ clear.before r q o o' h);
+      here = λ r o o'. by_equal r i (λ e. rw e (so.row p p<n ∙ zero_sum c _ _ so.gone (so.other p p p<n (λ e. absurd (omega arith)) ∙ clear.here p (omega arith) b))) (λ d. so.rows r p (omega arith) p<n d ∙ clear.here r o (omega arith));
     };
-    cells = cells_are m i p size grid bare grid' (added k m bare i c p) h l p<n take row;
-    places = places_are column column' i t write l;
+    slices = so.slices;
+    cells = so.cells;
+    places = so.places;
   }
     where
-      p<n : p < n
+      p<n : p < s.n
       p<n = omega arith
 
-      gone : cell k n bare i p ≡ k.zero
-      gone = bare_gone m i p size grid bare grid' (added k m bare i c p) h l p<n take row
+      so : Replaced i p (added k bare i c p) t s bare s''
+      so = replaced s bare s' s'' i p (added k bare i c p) t l p<n take only row same grid write
 
-      other : (r q : ℕ) → q < n → (r ≡ i → q ≢ p) → cell k n bare r q ≡ cell k n grid r q
-      other = bare_other m i p size grid bare grid' (added k m bare i c p) h l p<n take row
+  pub removed_more : {p i p' i' : ℕ} {s s' s'' : System K} → Removed k p i s s' → Removed k p' i' s' s'' → Removed k p' i' s s''
+  removed_more {p' = p'} {i' = i'} {s = s} {s' = s'} {s'' = s''} h h' = record {
+    refines = let next : Refines k s.n (cells_of k s') (values_of k s') (cells_of k s'') (values_of k s'') = subst (λ n. Refines k n (cells_of k s') (values_of k s') (cells_of k s'') (values_of k s'')) h.slices.size h'.refines in refines_trans k s.n h.refines next;
+    cleared = subst (λ n. Cleared k n p' i' (cells_of k s'')) h.slices.size h'.cleared;
+    slices = slices_more h.slices h'.slices;
+    cells = free_more h.slices h.cells h'.cells;
+    places = let tail : drop s.n s''.column.now ≡ drop s.n s'.column.now = rw h.slices.size at h'.places in tail ∙ h.places;
+  }
 
-      row' : (q : ℕ) → q < n → cell k n grid' i q ≡ k.plus (cell k n bare i q) (k.times c (cell k n bare p q))
-      row' q o = row_is m i p size grid bare grid' (added k m bare i c p) h l p<n take row q o ∙ ap (λ m. added k m bare i c p q) size
+  -- With the last unknown removed, the values put back are what a solver leaves.
+  pub leaves_back : (s s' s'' : System K) (cells column : List K) → cells ≡ s''.grid.now → column ≡ s''.column.now → Removed k s.n s.n s s' → Least k s'.n (cells_of k s') (values_of k s') (values_of k s'') → OnlyColumn s' s'' → Leaves k s.n s.grid.now s.column.now cells column
+  leaves_back s s' s'' cells column same same' so least only =
+      let least' : Least k s.n (cells_of k s') (values_of k s') (values_of k s'') = subst (λ n. Least k n (cells_of k s') (values_of k s') (values_of k s'')) so.slices.size least in
+      let tail : drop s.n s''.column.now ≡ drop s.n s'.column.now = rw so.slices.size at only.past in
+      record { least = rw same' (refines_least k s.n so.refines least'); places = rw same' (tail ∙ so.places); cells = rw (same, only.grid) so.cells }
 
-      rows : (r q : ℕ) → r < n → q < n → r ≢ i → cell k n grid' r q ≡ cell k n grid r q
-      rows = rows_are m i p size grid bare grid' (added k m bare i c p) h l p<n take row
+  -- The cells of a grid that is not written, as a function.
+  cells_kept : (s s' : System K) → OnlyColumn s s' → cells_of k s' ≡ cells_of k s
+  cells_kept s s' only = ap₂ (λ n cells. cell k n cells) only.slices.size only.grid
 
-  -- Steps in a row.
-  pub removed_none : (p i : ℕ) (grid column : List K) → Cleared k n p i (cell k n grid) → Removed k n p i grid column grid column
-  removed_none p i grid column clear = record { refines = refines_refl k n (cell k n grid) (entry_at k column); cleared = clear; cells = free_none n grid; places = refl }
+  -- What a row makes of the values, at the grid that stays.
+  row_value_kept : (s s' : System K) (r : ℕ) → OnlyColumn s s' → row_value k s' r ≡ right_side k s.n (cells_of k s) (values_of k s') (values_of k s') r
+  row_value_kept s s' r only = ap₂ (λ n cells. right_side k n cells (values_of k s') (values_of k s') r) only.slices.size (cells_kept s s' only)
 
-  pub removed_more : {p i p' i' : ℕ} {grid column grid' column' grid'' column'' : List K} → Removed k n p i grid column grid' column' → Removed k n p' i' grid' column' grid'' column'' → Removed k n p' i' grid column grid'' column''
-  removed_more h h' = record { refines = refines_trans k n h.refines h'.refines; cleared = h'.cleared; cells = free_more n h.cells h'.cells; places = h'.places ∙ h.places }
-
-  -- With the last row done, p is removed.
-  pub removed_next : (p i : ℕ) (grid column grid' column' : List K) → n ≤ i → Removed k n p i grid column grid' column' → Removed k n (p + 1) (p + 1) grid column grid' column'
-  removed_next p i grid column grid' column' l h = record { refines = h.refines; cleared = cleared_next k n p i (cell k n grid') l h.cleared; cells = h.cells; places = h.places }
-
-  pub removed_start : (grid column : List K) → Removed k n 0 0 grid column grid column
-  removed_start grid column = removed_none 0 0 grid column (record { before = λ r q l m o. absurd (omega arith); here = λ r l m. absurd (omega arith) })
-
-  -- The loops of the removal, at a grid whose size is m, which is n.
-  pub remove_turn : (m p i p' i' : ℕ) → m ≡ n → (grid column grid' column' grid'' column'' : List K) → Square n grid' → Removed k n p i grid column grid' column' → Removed k m p' i' grid' column' grid'' column'' → Square n grid'' × Removed k n p' i' grid column grid'' column''
-  remove_turn m p i p' i' size grid column grid' column' grid'' column'' h so step =
-      let step' : Removed k n p' i' grid' column' grid'' column'' = rw size at step in
-      (square_free n h step'.cells, removed_more so step')
-
-  pub remove_all_end : (p : ℕ) (grid column grid' column' : List K) → p ≡ n → Removed k n p p grid column grid' column' → Removed k n n n grid column grid' column'
-  remove_all_end p grid column grid' column' all so = rw all at so
-
-  pub remove_start : (m p i : ℕ) → m ≡ n → (grid column grid' column' : List K) → Square n grid → Removed k n p i grid column grid' column' → Square m grid' × Removed k m p i grid' column' grid' column'
-  remove_start m p i size grid column grid' column' h so = rw size (square_free n h so.cells, removed_none p i grid' column' so.cleared)
-
-  pub remove_end : (m p i : ℕ) → m ≡ n → m ≤ i → (grid column grid' column' grid'' column'' : List K) → Removed k n p (p + 1) grid column grid' column' → Removed k m p i grid' column' grid'' column'' → Removed k n (p + 1) (p + 1) grid column grid'' column''
-  remove_end m p i size all grid column grid' column' grid'' column'' so so' =
-      let rest : Removed k n p i grid' column' grid'' column'' = rw size at so' in
-      removed_next p i grid column grid'' column'' (omega arith) (removed_more so rest)
-
-  -- What the removal of all unknowns leaves to do.
-  pub removed_all : (m : ℕ) → m ≡ n → (grid column grid' column' : List K) → Square n grid → n ≤ length column' → Removed k n n n grid column grid' column' → (Square m grid' × m ≤ length column') × Cleared k m m m (cell k m grid')
-  removed_all m size grid column grid' column' h fits so = rw size ((square_free n h so.cells, fits), so.cleared)
-
-  pub back_start : (grid column : List K) → Back k n n (cell k n grid) (entry_at k column) (entry_at k column) × (drop n column ≡ drop n column)
-  back_start grid column = (back_none k n (cell k n grid) (entry_at k column), refl)
-
-  pub back_turn : (r : ℕ) (grid column column' column'' : List K) → 0 < r → r ≤ n → n ≤ length column' → Cleared k n n n (cell k n grid) → Back k n r (cell k n grid) (entry_at k column) (entry_at k column') → drop n column' ≡ drop n column → column'' ≡ set column' (r - 1) (right_side k n (cell k n grid) (entry_at k column') (entry_at k column') (r - 1)) → Back k n (r - 1) (cell k n grid) (entry_at k column) (entry_at k column'') × (drop n column'' ≡ drop n column)
-  back_turn r grid column column' column'' l m fits clear so tail write =
+  pub back_turn : (s s' s'' : System K) (r : ℕ) → 0 < r → r ≤ s.n → Cleared k s.n s.n s.n (cells_of k s) → Back k s.n r (cells_of k s) (values_of k s) (values_of k s') → OnlyColumn s s' → s''.column.now ≡ set s'.column.now (r - 1) (row_value k s' (r - 1)) → Back k s.n (r - 1) (cells_of k s) (values_of k s) (values_of k s'')
+  back_turn s s' s'' r l m clear so only write =
+      let within : r - 1 < s'.n = omega (arith, only.slices.size) in
       let e : suc (r - 1) ≡ r = omega arith in
-      (back_more k n (r - 1) (cell k n grid) (entry_at k column) (entry_at k column') (entry_at k column'') (omega arith) (λ r q o o' b. clear.before r q o o' b) (entry_here column' column'' (r - 1) _ write (omega arith)) (entry_other column' column'' (r - 1) _ write) (rw e so), places_are column' column'' (r - 1) _ write (omega arith) ∙ tail)
+      back_more k s.n (r - 1) (cells_of k s) (values_of k s) (values_of k s') (values_of k s'') (omega arith) (λ r q o o' b. clear.before r q o o' b) (value_here s' s'' (r - 1) _ within write ∙ row_value_kept s s' (r - 1) only) (value_other s' s'' (r - 1) _ within write) (rw e so)
 
-  pub back_end : (r : ℕ) (grid column column' : List K) → r ≡ 0 → Back k n r (cell k n grid) (entry_at k column) (entry_at k column') → Least k n (cell k n grid) (entry_at k column) (entry_at k column')
-  back_end r grid column column' none so = back_all k n (cell k n grid) (entry_at k column) (entry_at k column') (rw none at so)
-
-  pub leaves_back : (m : ℕ) → m ≡ n → (grid column grid' column' column'' end : List K) → end ≡ grid' → Removed k n n n grid column grid' column' → Least k m (cell k m grid') (entry_at k column') (entry_at k column'') → drop m column'' ≡ drop m column' → Leaves k n grid column end column''
-  leaves_back m size grid column grid' column' column'' end is so least tail =
-      let least' : Least k n (cell k n grid') (entry_at k column') (entry_at k column'') = rw size at least in
-      let tail' : drop n column'' ≡ drop n column' = rw size at tail in
-      record { least = refines_least k n so.refines least'; places = tail' ∙ so.places; cells = rw is so.cells }
-
-  -- The rows that p is passed to, at a grid whose size is m, which is n.
-  pub passed_none : (p from : ℕ) (grid : List K) → Passed k n p from from grid grid
-  passed_none p from grid = record { inside = λ i q l l' o. absurd (omega arith); outside = λ i q l o apart. refl; past = free_none n grid }
-
-  pub passed_turn : (m p from i : ℕ) → m ≡ n → (grid grid' grid'' : List K) (by : K) → Square n grid' → from ≤ i → i < n → p < n → (from ≤ p → p < i + 1 → ⊥) → by ≡ cell k m grid' i p → Rewritten k m i m (added k m grid' i by p) grid' grid'' → Passed k n p from i grid grid' → Square n grid'' × Passed k n p from (i + 1) grid grid''
-  passed_turn m p from i size grid grid' grid'' by h l l' o apart read row so =
-      let row' : Rewritten k n i n (added k n grid' i by p) grid' grid'' = rw size at row in
-      let read' : by ≡ cell k n grid' i p = rw size at read in (
-        square_free n h row'.past,
-        record {
-          inside = λ r q b b' u. by_equal r i (λ e. rw e (row'.done q u ∙ ap₂ k.plus (before i q l' u (λ _ b. omega arith)) (ap₂ k.times (read' ∙ before i p l' o (λ _ b. omega arith)) (before p q o u (λ b b'. apart b (omega arith)))))) (λ d. row'.rest r q (omega arith) u (λ e. absurd (d e)) ∙ so.inside r q b (omega arith) u);
-          outside = λ r q b u d. row'.rest r q b u (λ e. absurd (d (omega arith) (omega arith))) ∙ so.outside r q b u (λ b b'. d b (omega arith));
-          past = free_more n so.past row'.past;
-        },
-      )
-    where
-      before : (r q : ℕ) → r < n → q < n → (from ≤ r → r < i → ⊥) → cell k n grid' r q ≡ cell k n grid r q
-      before = so.outside
+  pub multiply_turn : (s s' s'' : System K) (r : ℕ) → r < s.n → ((a : ℕ → ℕ → K) → Closed k s.n s.n a (cells_of k s) → Multiplied k s.n r (cells_of k s) (values_of k s) (values_of k s')) → OnlyColumn s s' → s''.column.now ≡ set s'.column.now r (row_value k s' r) → (a : ℕ → ℕ → K) → Closed k s.n s.n a (cells_of k s) → Multiplied k s.n (r + 1) (cells_of k s) (values_of k s) (values_of k s'')
+  multiply_turn s s' s'' r l so only write a h =
+      let within : r < s'.n = omega (arith, only.slices.size) in
+      multiplied_more k s.n r a (cells_of k s) (values_of k s) (values_of k s') l h (so a h) (values_of k s'') (value_here s' s'' r _ within write ∙ row_value_kept s s' r only) (value_other s' s'' r _ within write)
 
   -- A step of Kleene's scheme: row p times its star, and then passed to the rows before and after.
-  pub stepped : (m m' p : ℕ) → m ≡ n → m' ≡ n → (grid scaled_grid low_grid grid' : List K) (w by : K) → p < n → w ≡ cell k n grid p p → by ≡ k.star w → Rewritten k n p n (scaled k n grid p by) grid scaled_grid → Passed k m p 0 p scaled_grid low_grid → Passed k m' p (p + 1) m low_grid grid' → Stepped k n p (cell k n grid) (cell k n grid') × Free n grid grid'
-  stepped m m' p size size' grid scaled_grid low_grid grid' w by l read star row before after =
-      let low : Passed k n p 0 p scaled_grid low_grid = rw size at before in
-      let high : Passed k n p (p + 1) n low_grid grid' = rw (size', size) at after in
-      (joined low high, free_more n row.past (free_more n low.past high.past))
+  pub stepped : (s scaled_s low_s s' : System K) (p : ℕ) (w by : K) → p < s.n → w ≡ cells_of k s p p → by ≡ k.star w → Rewritten k p s.n (scaled k s p by) s scaled_s → Passed k p 0 p scaled_s low_s → Passed k p (p + 1) low_s.n low_s s' → Stepped k s.n p (cells_of k s) (cells_of k s')
+  stepped s scaled_s low_s s' p w by l read star row low high i q o u = by_equal i p at_p apart
     where
-      other : (i q : ℕ) → i < n → q < n → i ≢ p → cell k n scaled_grid i q ≡ cell k n grid i q
+      size : scaled_s.n ≡ s.n
+      size = row.only.slices.size
+
+      other : (i q : ℕ) → i < s.n → q < s.n → i ≢ p → cells_of k scaled_s i q ≡ cells_of k s i q
       other i q o u d = row.rest i q o u (λ e. absurd (d e))
 
-      here : (q : ℕ) → q < n → cell k n scaled_grid p q ≡ k.times (k.star (cell k n grid p p)) (cell k n grid p q)
-      here q u = row.done q u ∙ ap (λ s. k.times s (cell k n grid p q)) (star ∙ ap k.star read)
+      here : (q : ℕ) → q < s.n → cells_of k scaled_s p q ≡ k.times (k.star (cells_of k s p p)) (cells_of k s p q)
+      here q u = row.done q u ∙ ap (λ b. k.times b (cells_of k s p q)) (star ∙ ap k.star read)
 
-      through : (i q : ℕ) → i < n → q < n → i ≢ p → added k n scaled_grid i (cell k n scaled_grid i p) p q ≡ k.plus (cell k n grid i q) (k.times (cell k n grid i p) (k.times (k.star (cell k n grid p p)) (cell k n grid p q)))
+      through : (i q : ℕ) → i < s.n → q < s.n → i ≢ p → added k scaled_s i (cells_of k scaled_s i p) p q ≡ k.plus (cells_of k s i q) (k.times (cells_of k s i p) (k.times (k.star (cells_of k s p p)) (cells_of k s p q)))
       through i q o u d = ap₂ k.plus (other i q o u d) (ap₂ k.times (other i p o l d) (here q u))
 
-      joined : Passed k n p 0 p scaled_grid low_grid → Passed k n p (p + 1) n low_grid grid' → Stepped k n p (cell k n grid) (cell k n grid')
-      joined low high i q o u = by_equal i p at_p apart
-        where
-          at_p : i ≡ p → cell k n grid' i q ≡ k.plus (cell k n grid i q) (k.times (cell k n grid i p) (k.times (k.star (cell k n grid p p)) (cell k n grid p q)))
-          at_p e =
-              rw e (high.outside p q l u (λ b b'. omega arith) ∙ low.outside p q l u (λ b b'. omega arith) ∙ here q u ∙ Star.star_solves k (cell k n grid p p) (cell k n grid p q) ∙ k.laws.plus_comm _ _)
+      at_p : i ≡ p → cells_of k s' i q ≡ k.plus (cells_of k s i q) (k.times (cells_of k s i p) (k.times (k.star (cells_of k s p p)) (cells_of k s p q)))
+      at_p e =
+          rw e (high.outside p q (omega arith) (omega arith) (λ b b'. omega arith) ∙ low.outside p q (omega arith) (omega arith) (λ b b'. omega arith) ∙ here q u ∙ Star.star_solves k (cells_of k s p p) (cells_of k s p q) ∙ k.laws.plus_comm _ _)
 
-          below : i < p → cell k n grid' i q ≡ added k n scaled_grid i (cell k n scaled_grid i p) p q
-          below b = high.outside i q o u (λ t t'. omega arith) ∙ low.inside i q (omega arith) b u
+      below : i < p → cells_of k s' i q ≡ added k scaled_s i (cells_of k scaled_s i p) p q
+      below b = high.outside i q (omega arith) (omega arith) (λ t t'. omega arith) ∙ low.inside i q (omega arith) b (omega arith)
 
-          same : (r j : ℕ) → r < n → j < n → p ≤ r → cell k n low_grid r j ≡ cell k n scaled_grid r j
-          same r j o u b = low.outside r j o u (λ t t'. omega arith)
+      same : (r j : ℕ) → r < s.n → j < s.n → p ≤ r → cells_of k low_s r j ≡ cells_of k scaled_s r j
+      same r j o u b = low.outside r j (omega arith) (omega arith) (λ t t'. omega arith)
 
-          above : p < i → cell k n grid' i q ≡ added k n scaled_grid i (cell k n scaled_grid i p) p q
-          above b = high.inside i q (omega arith) o u ∙ ap₂ k.plus (same i q o u (omega arith)) (ap₂ k.times (same i p o l (omega arith)) (same p q l u (omega arith)))
+      above : p < i → cells_of k s' i q ≡ added k scaled_s i (cells_of k scaled_s i p) p q
+      above b = high.inside i q (omega arith) (omega arith) (omega arith) ∙ ap₂ k.plus (same i q o u (omega arith)) (ap₂ k.times (same i p o l (omega arith)) (same p q l u (omega arith)))
 
-          apart : i ≢ p → cell k n grid' i q ≡ k.plus (cell k n grid i q) (k.times (cell k n grid i p) (k.times (k.star (cell k n grid p p)) (cell k n grid p q)))
-          apart d = elim (dec_lt i p) [ yes b ↦ below b ∙ through i q o u d | no b ↦ above (omega arith) ∙ through i q o u d ]
+      apart : i ≢ p → cells_of k s' i q ≡ k.plus (cells_of k s i q) (k.times (cells_of k s i p) (k.times (k.star (cells_of k s p p)) (cells_of k s p q)))
+      apart d = elim (dec_lt i p) [ yes b ↦ below b ∙ through i q o u d | no b ↦ above (omega arith) ∙ through i q o u d ]
 
-  pub form_start : (grid : List K) → Free n grid grid × Closed k n 0 (cell k n grid) (cell k n grid)
-  form_start grid = (free_none n grid, closed_none k n (cell k n grid))
-
-  pub form_end : (p : ℕ) (grid grid' : List K) → p ≡ n → Closed k n p (cell k n grid) (cell k n grid') → Closed k n n (cell k n grid) (cell k n grid')
-  form_end p grid grid' all so = rw all at so
-
-  pub form_turn : (m p : ℕ) → m ≡ n → (grid grid' grid'' : List K) → p < n → Free n grid grid' → Closed k n p (cell k n grid) (cell k n grid') → Stepped k m p (cell k m grid') (cell k m grid'') → Free m grid' grid'' → Free n grid grid'' × Closed k n (p + 1) (cell k n grid) (cell k n grid'')
-  form_turn m p size grid grid' grid'' l past so step past' =
-      let step' : Stepped k n p (cell k n grid') (cell k n grid'') = rw size at step in
-      let past'' : Free n grid' grid'' = rw size at past' in
-      (free_more n past past'', closed_more k n p (cell k n grid) (cell k n grid') (cell k n grid'') l step' so)
-
-  pub multiply_start : (grid column : List K) → ((a : ℕ → ℕ → K) → Closed k n n a (cell k n grid) → Multiplied k n 0 (cell k n grid) (entry_at k column) (entry_at k column)) × (drop n column ≡ drop n column)
-  multiply_start grid column = (λ a h. multiplied_none k n (cell k n grid) (entry_at k column), refl)
-
-  pub multiply_end : (r : ℕ) (grid column column' : List K) → r ≡ n → ((a : ℕ → ℕ → K) → Closed k n n a (cell k n grid) → Multiplied k n r (cell k n grid) (entry_at k column) (entry_at k column')) → (a : ℕ → ℕ → K) → Closed k n n a (cell k n grid) → Least k n a (entry_at k column) (entry_at k column')
-  multiply_end r grid column column' all so a h = multiplied_all k n a (cell k n grid) (entry_at k column) (entry_at k column') h (subst (λ r. Multiplied k n r (cell k n grid) (entry_at k column) (entry_at k column')) all (so a h))
-
-  pub multiply_turn : (r : ℕ) (grid column column' column'' : List K) → r < n → n ≤ length column' → ((a : ℕ → ℕ → K) → Closed k n n a (cell k n grid) → Multiplied k n r (cell k n grid) (entry_at k column) (entry_at k column')) → drop n column' ≡ drop n column → column'' ≡ set column' r (right_side k n (cell k n grid) (entry_at k column') (entry_at k column') r) → ((a : ℕ → ℕ → K) → Closed k n n a (cell k n grid) → Multiplied k n (r + 1) (cell k n grid) (entry_at k column) (entry_at k column'')) × (drop n column'' ≡ drop n column)
-  multiply_turn r grid column column' column'' l fits so tail write =
-      (λ a h. multiplied_more k n r a (cell k n grid) (entry_at k column) (entry_at k column') l h (so a h) (entry_at k column'') (entry_here column' column'' r _ write (omega arith)) (entry_other column' column'' r _ write), places_are column' column'' r _ write l ∙ tail)
-
-  pub leaves_closed : (m : ℕ) → m ≡ n → (grid column grid' column' end : List K) → end ≡ grid' → Closed k n n (cell k n grid) (cell k n grid') → Free n grid grid' → ((a : ℕ → ℕ → K) → Closed k m m a (cell k m grid') → Least k m a (entry_at k column) (entry_at k column')) → drop m column' ≡ drop m column → Leaves k n grid column end column'
-  leaves_closed m size grid column grid' column' end is so past least tail =
-      let least' : (a : ℕ → ℕ → K) → Closed k n n a (cell k n grid') → Least k n a (entry_at k column) (entry_at k column') = rw size at least in
-      record { least = least' (cell k n grid) so; places = rw size at tail; cells = rw is past }
+  pub form_turn : (s s' s'' : System K) (p : ℕ) → p < s.n → OnlyGrid s s' → Closed k s.n p (cells_of k s) (cells_of k s') → Stepped k s'.n p (cells_of k s') (cells_of k s'') → Closed k s.n (p + 1) (cells_of k s) (cells_of k s'')
+  form_turn s s' s'' p l only so step =
+      let step' : Stepped k s.n p (cells_of k s') (cells_of k s'') = subst (λ n. Stepped k n p (cells_of k s') (cells_of k s'')) only.slices.size step in
+      closed_more k s.n p (cells_of k s) (cells_of k s') (cells_of k s'') l step' so

@@ -1,8 +1,10 @@
 -- Elimination: how the removal of unknowns changes a system, and how far it has come. A row names
 -- an unknown where its cell there is not zero.
-use Rattle.std.specs.Prelude.{◌≡◌, ℕ, ◌<◌, ◌≤◌, List, drop}
+use Rattle.std.specs.Prelude.{◌≡◌, ℕ, ◌<◌, ◌≤◌, drop}
 use Rattle.semiring.specs.Algebra.{Algebra, Under}
-use Rattle.linear.specs.System.{right_side, cell, entry_at, Free}
+use Rattle.linear.specs.declared.system.System.{System}
+use Rattle.linear.specs.System.{right_side, Free}
+use Rattle.linear.specs.Rows.{SameSlices, cells_of, values_of}
 
 module _ {K : Type 0} (k : Algebra K) (n : ℕ) where
   -- y has A y + b under it, place by place.
@@ -24,10 +26,11 @@ module _ {K : Type 0} (k : Algebra K) (n : ℕ) where
     pub before : (r q : ℕ) → r < n → q < p → q ≤ r → a r q ≡ k.zero
     pub here : (r : ℕ) → p ≤ r → r < i → a r p ≡ k.zero
 
-  -- The removal has come so far, and the new system may stand for the old one. What lies past the
-  -- system is as it was.
-  pub record Removed (p i : ℕ) (grid column grid' column' : List K) : Type 0 where
-    pub refines : Refines (cell k n grid) (entry_at k column) (cell k n grid') (entry_at k column')
-    pub cleared : Cleared p i (cell k n grid')
-    pub cells : Free n grid grid'
-    pub places : drop n column' ≡ drop n column
+-- The removal has come so far, and the new system, in the slices of the old one, may stand for it.
+-- What lies past the system is as it was.
+pub record Removed {K : Type 0} (k : Algebra K) (p i : ℕ) (s s' : System K) : Type 0 where
+  pub refines : Refines k s.n (cells_of k s) (values_of k s) (cells_of k s') (values_of k s')
+  pub cleared : Cleared k s.n p i (cells_of k s')
+  pub slices : SameSlices s s'
+  pub cells : Free s.n s.grid.now s'.grid.now
+  pub places : drop s.n s'.column.now ≡ drop s.n s.column.now

@@ -18,9 +18,14 @@ pub fn solve_twice<K: Semiring, S: Solver, T: Solver>(
     second_grid: &mut [K],
     second_column: &mut [K],
 ) -> Result<(), Refusal>
-    requires { (second_grid.old ≡ grid.old) × (second_column.old ≡ column.old) }
-    ensures first { Solved K.Semiring.algebra n (S.Solver.calls one.old) grid.old column.old (S.Solver.calls one.new) grid.new column.new result }
-    ensures second { Solved K.Semiring.algebra n (T.Solver.calls other.old) second_grid.old second_column.old (T.Solver.calls other.new) second_grid.new second_column.new result }
+    requires grid { second_grid.old ≡ grid.old }
+    requires column { second_column.old ≡ column.old }
+    ensures first { Solved K.Semiring.algebra n
+        (S.Solver.calls one.old) grid.old column.old
+        (S.Solver.calls one.new) grid.new column.new result }
+    ensures second { Solved K.Semiring.algebra n
+        (T.Solver.calls other.old) second_grid.old second_column.old
+        (T.Solver.calls other.new) second_grid.new second_column.new result }
     ensures one { OneSolution K.Semiring.algebra }
     ensures agree { second_column.new ≡ column.new }
 {

@@ -1,114 +1,77 @@
 // Solves a system by closure: forms the star of the grid by Kleene's scheme, but for the ones on
 // its diagonal, and multiplies it by the column.
-ghost use Rattle.std.specs.Prelude.{◌≡◌, ℕ, ◌+◌, ◌<◌, ◌≤◌, length, drop};
-ghost use Rattle.linear.specs.System.{cell, entry_at, Least, Free, Leaves};
-ghost use Rattle.linear.specs.Rows.{Square};
+ghost use Rattle.std.specs.Prelude.{◌≡◌, ℕ, ◌+◌, ◌<◌, ◌≤◌};
+ghost use Rattle.linear.specs.System.{Least};
+ghost use Rattle.linear.specs.Rows.{OnlyGrid, OnlyColumn, cells_of, values_of};
 ghost use Rattle.linear.specs.Kleene.{Passed, Stepped, Closed};
 
-use crate::grid::Grid;
-use crate::refusal::Refusal;
-use crate::solver::{Solver, check, raise};
+use crate::counting::{Counting, Method};
+use crate::system::System;
 use semiring::Semiring;
 
-// Adds row p to the rows from `from` up to `to`, multiplied by what each has at p.
-fn pass<K: Semiring>(grid: &mut Grid<'_, K>, p: usize, from: usize, to: usize)
-    requires { (Square grid.old.n grid.old.cells.now) × ((p < grid.old.n) × ((from ≤ to) × ((to ≤ grid.old.n) × ((from ≤ p → p < to → ⊥))))) }
-    ensures rows { Passed K.algebra grid.old.n p from to grid.old.cells.now grid.new.cells.now }
-    ensures size { grid.new.n ≡ grid.old.n }
-    ensures same { grid.new.cells.ghost_name ≡ grid.old.cells.ghost_name }
-{
-    for i in from..to {
-        let by = grid.at(i, p);
-        grid.add_row(i, by, p);
+impl<K: Semiring> System<'_, K> {
+    // Adds row p to the rows from `from` up to `to`, multiplied by what each has at p.
+    fn pass(&mut self, p: usize, from: usize, to: usize)
+        requires row { p < self.old.n }
+        requires order { from ≤ to }
+        requires end { to ≤ self.old.n }
+        requires apart { from ≤ p → p < to → ⊥ }
+        ensures { Passed K.algebra p from to self.old self.new }
+    {
+        for i in from..to {
+            let by = self.at(i, p);
+            self.add_row(i, by, p);
+        }
+    }
+
+    // Lets every way pass p, any number of times.
+    fn step(&mut self, p: usize)
+        requires { p < self.old.n }
+        ensures cells { let k = K.algebra in
+            Stepped k self.old.n p (cells_of k self.old) (cells_of k self.new) }
+        ensures only { OnlyGrid self.old self.new }
+    {
+        let by = self.at(p, p).star();
+        self.scale_row(p, by);
+        self.pass(p, 0, p);
+        self.pass(p, p + 1, self.n);
+    }
+
+    // Forms all ways of the grid.
+    fn form(&mut self)
+        ensures cells { let k = K.algebra in let n = self.old.n in
+            Closed k n n (cells_of k self.old) (cells_of k self.new) }
+        ensures only { OnlyGrid self.old self.new }
+    {
+        for p in 0..self.n {
+            self.step(p);
+        }
+    }
+
+    // Multiplies the column by the star of a grid a, of which all ways are formed. In place: a
+    // value that is multiplied already adds nothing new to the next.
+    fn multiply(&mut self)
+        ensures least { let k = K.algebra in let n = self.old.n in (a : ℕ → ℕ → K)
+            → Closed k n n a (cells_of k self.old)
+            → Least k n a (values_of k self.old) (values_of k self.new) }
+        ensures only { OnlyColumn self.old self.new }
+    {
+        for r in 0..self.n {
+            self.apply(r);
+        }
     }
 }
 
-// Lets every way pass p, any number of times.
-fn step<K: Semiring>(grid: &mut Grid<'_, K>, p: usize)
-    requires { (Square grid.old.n grid.old.cells.now) × (p < grid.old.n) }
-    ensures cells { Stepped K.algebra grid.old.n p (cell K.algebra grid.old.n grid.old.cells.now) (cell K.algebra grid.old.n grid.new.cells.now) }
-    ensures past { Free grid.old.n grid.old.cells.now grid.new.cells.now }
-    ensures size { grid.new.n ≡ grid.old.n }
-    ensures same { grid.new.cells.ghost_name ≡ grid.old.cells.ghost_name }
-{
-    let by = grid.at(p, p).star();
-    grid.scale_row(p, by);
-    let n = grid.n;
-    pass(grid, p, 0, p);
-    pass(grid, p, p + 1, n);
-}
-
-// Forms all ways of the grid.
-fn form<K: Semiring>(grid: &mut Grid<'_, K>)
-    requires { Square grid.old.n grid.old.cells.now }
-    ensures cells { Closed K.algebra grid.old.n grid.old.n (cell K.algebra grid.old.n grid.old.cells.now) (cell K.algebra grid.old.n grid.new.cells.now) }
-    ensures past { Free grid.old.n grid.old.cells.now grid.new.cells.now }
-    ensures size { grid.new.n ≡ grid.old.n }
-    ensures same { grid.new.cells.ghost_name ≡ grid.old.cells.ghost_name }
-{
-    for p in 0..grid.n {
-        step(grid, p);
-    }
-}
-
-// Multiplies the column by the star of a grid, of which all ways are formed. In place: a value
-// that is multiplied already adds nothing new to the next.
-fn multiply<K: Semiring>(grid: &Grid<'_, K>, column: &mut [K])
-    requires { (Square grid.now.n grid.now.cells.now) × (grid.now.n ≤ length column.old) }
-    ensures least { (a : ℕ → ℕ → K) → Closed K.algebra grid.now.n grid.now.n a (cell K.algebra grid.now.n grid.now.cells.now) → Least K.algebra grid.now.n a (entry_at K.algebra column.old) (entry_at K.algebra column.new) }
-    ensures places { drop grid.now.n column.new ≡ drop grid.now.n column.old }
-{
-    for r in 0..grid.n {
-        grid.apply(column, r);
-    }
-}
-
-fn close<K: Semiring>(n: usize, cells: &mut [K], column: &mut [K])
-    requires { (Square n cells.old) × (n ≤ length column.old) }
-    ensures { Leaves K.algebra n cells.old column.old cells.new column.new }
-{
-    let mut grid = Grid { cells, n };
-    form(&mut grid);
-    multiply(&grid, column);
-}
-
-// Closure, with the count of systems that it has solved.
+// The method itself; it has nothing to remember.
 #[derive(Drop)]
-pub struct Closure {
-    count: u32,
-}
+pub struct Closing;
 
-impl Closure {
-    pub fn new() -> Closure
-        ensures { result.count ≡ 0 }
-    {
-        Closure::counting_from(0)
-    }
-
-    // One that has solved so many systems before.
-    pub(crate) fn counting_from(count: u32) -> Closure
-        ensures { result.count ≡ count }
-    {
-        Closure { count }
+impl Method for Closing {
+    fn run<K: Semiring>(n: usize, grid: &mut [K], column: &mut [K]) {
+        let mut system = System { n, grid, column };
+        system.form();
+        system.multiply();
     }
 }
 
-impl Solver for Closure {
-    ghost calls = { λ s. s.count };
-
-    fn solve<K: Semiring>(
-        &mut self,
-        n: usize,
-        grid: &mut [K],
-        column: &mut [K],
-    ) -> Result<(), Refusal> {
-        check(n, grid, column)?;
-        close(n, grid, column);
-        raise(&mut self.count);
-        Ok(())
-    }
-
-    fn count(&self) -> u32 {
-        self.count
-    }
-}
+pub type Closure = Counting<Closing>;

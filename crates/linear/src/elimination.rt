@@ -1,126 +1,81 @@
 // Solves a system by elimination: removes the unknowns in rising number and substitutes back.
-ghost use Rattle.std.specs.Prelude.{◌≡◌, ◌+◌, ◌*◌, ◌<◌, ◌≤◌, length, drop};
-ghost use Rattle.linear.specs.System.{cell, entry_at, Least, Leaves};
-ghost use Rattle.linear.specs.Rows.{Square};
+ghost use Rattle.std.specs.Prelude.{◌≡◌, ◌+◌, ◌<◌};
+ghost use Rattle.linear.specs.System.{Least};
+ghost use Rattle.linear.specs.Rows.{OnlyColumn, cells_of, values_of};
 ghost use Rattle.linear.specs.Removal.{Cleared, Removed};
 
-use crate::grid::{Grid, read, write};
-use crate::refusal::Refusal;
-use crate::solver::{Solver, check, raise};
+use crate::counting::{Counting, Method};
+use crate::system::System;
 use semiring::Semiring;
 
-// Solves row p for its own unknown: p goes out of it, and the rest is multiplied by the star.
-fn solve_row<K: Semiring>(grid: &mut Grid<'_, K>, column: &mut [K], p: usize)
-    requires square { (Square grid.old.n grid.old.cells.now) × ((p < grid.old.n) × (grid.old.n ≤ length column.old)) }
-    requires cleared { Cleared K.algebra grid.old.n p p (cell K.algebra grid.old.n grid.old.cells.now) }
-    ensures system { Removed K.algebra grid.old.n p (p + 1) grid.old.cells.now column.old grid.new.cells.now column.new }
-    ensures size { grid.new.n ≡ grid.old.n }
-    ensures same { grid.new.cells.ghost_name ≡ grid.old.cells.ghost_name }
-{
-    let by = grid.take(p, p).star();
-    grid.scale_row(p, by);
-    let value = by.product(read(column, p));
-    write(column, p, value);
-}
+impl<K: Semiring> System<'_, K> {
+    // Solves row p for its own unknown: p goes out of it, and the rest is multiplied by the star.
+    fn solve_row(&mut self, p: usize)
+        requires row { p < self.old.n }
+        requires cleared { Cleared K.algebra self.old.n p p (cells_of K.algebra self.old) }
+        ensures { Removed K.algebra p (p + 1) self.old self.new }
+    {
+        let by = self.take(p, p).star();
+        self.scale_row(p, by);
+        self.column[p] = by.product(self.column[p]);
+    }
 
-// Puts row p into row i, in the place of the unknown p.
-fn put_into<K: Semiring>(grid: &mut Grid<'_, K>, column: &mut [K], p: usize, i: usize)
-    requires square { (Square grid.old.n grid.old.cells.now) × ((p < i) × ((i < grid.old.n) × (grid.old.n ≤ length column.old))) }
-    requires cleared { Cleared K.algebra grid.old.n p i (cell K.algebra grid.old.n grid.old.cells.now) }
-    ensures system { Removed K.algebra grid.old.n p (i + 1) grid.old.cells.now column.old grid.new.cells.now column.new }
-    ensures size { grid.new.n ≡ grid.old.n }
-    ensures same { grid.new.cells.ghost_name ≡ grid.old.cells.ghost_name }
-{
-    let by = grid.take(i, p);
-    grid.add_row(i, by, p);
-    let value = read(column, i).sum(by.product(read(column, p)));
-    write(column, i, value);
-}
+    // Puts row p into row i, in the place of the unknown p.
+    fn put_into(&mut self, p: usize, i: usize)
+        requires order { p < i }
+        requires row { i < self.old.n }
+        requires cleared { Cleared K.algebra self.old.n p i (cells_of K.algebra self.old) }
+        ensures { Removed K.algebra p (i + 1) self.old self.new }
+    {
+        let by = self.take(i, p);
+        self.add_row(i, by, p);
+        self.column[i] = self.column[i].sum(by.product(self.column[p]));
+    }
 
-// Removes the unknown p from its own row and from those after it.
-fn remove<K: Semiring>(grid: &mut Grid<'_, K>, column: &mut [K], p: usize)
-    requires square { (Square grid.old.n grid.old.cells.now) × ((p < grid.old.n) × (grid.old.n ≤ length column.old)) }
-    requires cleared { Cleared K.algebra grid.old.n p p (cell K.algebra grid.old.n grid.old.cells.now) }
-    ensures system { Removed K.algebra grid.old.n (p + 1) (p + 1) grid.old.cells.now column.old grid.new.cells.now column.new }
-    ensures size { grid.new.n ≡ grid.old.n }
-    ensures same { grid.new.cells.ghost_name ≡ grid.old.cells.ghost_name }
-{
-    solve_row(grid, column, p);
-    for i in p + 1..grid.n {
-        put_into(grid, column, p, i);
+    // Removes the unknown p from its own row and from those after it.
+    fn remove(&mut self, p: usize)
+        requires row { p < self.old.n }
+        requires cleared { Cleared K.algebra self.old.n p p (cells_of K.algebra self.old) }
+        ensures { Removed K.algebra (p + 1) (p + 1) self.old self.new }
+    {
+        self.solve_row(p);
+        for i in p + 1..self.n {
+            self.put_into(p, i);
+        }
+    }
+
+    // Removes every unknown, in rising number.
+    fn remove_all(&mut self)
+        ensures { Removed K.algebra self.old.n self.old.n self.old self.new }
+    {
+        for p in 0..self.n {
+            self.remove(p);
+        }
+    }
+
+    // Puts the values back, from the last row up.
+    fn put_back(&mut self)
+        requires { let n = self.old.n in Cleared K.algebra n n n (cells_of K.algebra self.old) }
+        ensures least { let k = K.algebra in
+            Least k self.old.n (cells_of k self.old) (values_of k self.old) (values_of k self.new) }
+        ensures only { OnlyColumn self.old self.new }
+    {
+        for r in (0..self.n).rev() {
+            self.apply(r);
+        }
     }
 }
 
-// Removes every unknown, in rising number.
-fn remove_all<K: Semiring>(grid: &mut Grid<'_, K>, column: &mut [K])
-    requires { (Square grid.old.n grid.old.cells.now) × (grid.old.n ≤ length column.old) }
-    ensures system { Removed K.algebra grid.old.n grid.old.n grid.old.n grid.old.cells.now column.old grid.new.cells.now column.new }
-    ensures size { grid.new.n ≡ grid.old.n }
-    ensures same { grid.new.cells.ghost_name ≡ grid.old.cells.ghost_name }
-{
-    for p in 0..grid.n {
-        remove(grid, column, p);
-    }
-}
-
-// Puts the values back, from the last row up.
-fn put_back<K: Semiring>(grid: &Grid<'_, K>, column: &mut [K])
-    requires square { (Square grid.now.n grid.now.cells.now) × (grid.now.n ≤ length column.old) }
-    requires cleared { Cleared K.algebra grid.now.n grid.now.n grid.now.n (cell K.algebra grid.now.n grid.now.cells.now) }
-    ensures least { Least K.algebra grid.now.n (cell K.algebra grid.now.n grid.now.cells.now) (entry_at K.algebra column.old) (entry_at K.algebra column.new) }
-    ensures places { drop grid.now.n column.new ≡ drop grid.now.n column.old }
-{
-    for r in (0..grid.n).rev() {
-        grid.apply(column, r);
-    }
-}
-
-fn eliminate<K: Semiring>(n: usize, cells: &mut [K], column: &mut [K])
-    requires { (Square n cells.old) × (n ≤ length column.old) }
-    ensures { Leaves K.algebra n cells.old column.old cells.new column.new }
-{
-    let mut grid = Grid { cells, n };
-    remove_all(&mut grid, column);
-    put_back(&grid, column);
-}
-
-// Elimination, with the count of systems that it has solved.
+// The method itself; it has nothing to remember.
 #[derive(Drop)]
-pub struct Elimination {
-    count: u32,
-}
+pub struct Eliminating;
 
-impl Elimination {
-    pub fn new() -> Elimination
-        ensures { result.count ≡ 0 }
-    {
-        Elimination::counting_from(0)
-    }
-
-    // One that has solved so many systems before.
-    pub(crate) fn counting_from(count: u32) -> Elimination
-        ensures { result.count ≡ count }
-    {
-        Elimination { count }
+impl Method for Eliminating {
+    fn run<K: Semiring>(n: usize, grid: &mut [K], column: &mut [K]) {
+        let mut system = System { n, grid, column };
+        system.remove_all();
+        system.put_back();
     }
 }
 
-impl Solver for Elimination {
-    ghost calls = { λ s. s.count };
-
-    fn solve<K: Semiring>(
-        &mut self,
-        n: usize,
-        grid: &mut [K],
-        column: &mut [K],
-    ) -> Result<(), Refusal> {
-        check(n, grid, column)?;
-        eliminate(n, grid, column);
-        raise(&mut self.count);
-        Ok(())
-    }
-
-    fn count(&self) -> u32 {
-        self.count
-    }
-}
+pub type Elimination = Counting<Eliminating>;

@@ -3,9 +3,10 @@
 
 pub mod agreement;
 pub mod closure;
+pub mod counting;
 pub mod elimination;
-mod grid;
 pub mod refusal;
 pub mod solver;
+mod system;
 #[cfg(test)]
 mod tests;

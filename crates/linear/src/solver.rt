@@ -1,6 +1,6 @@
 // What a solver of linear systems is.
-ghost use Rattle.std.specs.Prelude.{◌≡◌, ℕ, ◌+◌, min};
-ghost use Rattle.linear.specs.Solved.{Solved, Asked, one_more};
+ghost use Rattle.std.specs.Prelude.{◌≡◌, ℕ};
+ghost use Rattle.linear.specs.Solved.{Solved};
 
 use crate::refusal::Refusal;
 use semiring::Semiring;
@@ -22,21 +22,4 @@ pub trait Solver {
 
     fn count(&self) -> u32
         ensures { result ≡ calls self.now };
-}
-
-// Whether a solver takes a system.
-pub(crate) fn check<K: Semiring>(n: usize, grid: &[K], column: &[K]) -> Result<(), Refusal>
-    ensures { Asked n grid.now column.now result }
-{
-    if n > 32 || column.len() < n || grid.len() < n * n {
-        return Err(Refusal::System);
-    }
-    Ok(())
-}
-
-// Counts one system more, up to the largest count.
-pub(crate) fn raise(count: &mut u32)
-    ensures { count.new ≡ one_more count.old }
-{
-    *count = count.saturating_add(1);
 }

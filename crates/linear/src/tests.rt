@@ -9,13 +9,11 @@ use std::test::Fail;
 
 // The call was refused with number 12.
 fn refused(rt: &impl Abort, answer: Result<(), Refusal>) -> Result<(), Fail> {
-    match answer {
-        Ok(()) => Err(Fail::new("accepted")),
-        Err(refusal) => {
-            assert_eq!(rt; refusal.number(), 12);
-            Ok(())
-        },
-    }
+    let Err(refusal) = answer else {
+        return Err(Fail::new("accepted"));
+    };
+    assert_eq!(rt; refusal.number(), 12);
+    Ok(())
 }
 
 #[test]
