@@ -10,7 +10,7 @@ use Rattle.equations.specs.Reached.{Image, Reached, start, round}
 use Rattle.equations.specs.declared.possible.Possible.{Possible}
 use Rattle.equations.specs.Possible.{says, possible}
 use Rattle.equations.specs.Example.{calling, example, ended, Example}
-use Rattle.equations.proofs.Rules.{no_calls, more_calls, no_rules, more_rules}
+use Rattle.equations.proofs.Within.{no_calls, more_calls, no_rules, more_rules}
 use Rattle.equations.proofs.Converging.{convergence}
 
 -- f(v), where the linear system at v keeps it, is the least solution of that system.

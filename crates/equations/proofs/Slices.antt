@@ -1,10 +1,10 @@
 -- What the code reads off the slices, step by step: the calls of a branch one after the other, the
 -- held rules one after the other, and a slice that is written from the front.
-use Rattle.std.proofs.Common.{◌≡◌, ℕ, zero, suc, ◌+◌, ◌-◌, ◌*◌, ◌<◌, cond, eqb, ◌⊎◌, List, [], ◌∷◌, ◌++◌, length, get_or, take, drop, set, sym, refl, ap, ◌∙◌, ap₂, inl, inr, append_assoc, le_of_suc-le-suc, eq-or-lt_of_le, add-one, arith, length-append}
+use Rattle.std.proofs.Common.{◌≡◌, ℕ, zero, suc, ◌+◌, ◌-◌, ◌*◌, ◌<◌, ◌≤◌, cond, eqb, ◌⊎◌, List, [], ◌∷◌, ◌++◌, length, get_or, take, drop, set, sym, refl, ap, ◌∙◌, ap₂, inl, inr, append_assoc, le_of_suc-le-suc, eq-or-lt_of_le, add-one, arith, length-append}
 use lib.Arith.{digits_lt, digits_div, digits_mod}
 use Rattle.std.proofs.lemmas.Bool.{eq-eqb, ne_eqb, cond-true, cond-false}
 use Rattle.std.proofs.lemmas.Slice.{first_rest}
-use Rattle.std.proofs.lemmas.List.{drop_more, set_at, get_or_at, get_or_append_left, get_or_read}
+use Rattle.std.proofs.lemmas.List.{drop_more, set_at, get_or_at, get_or_append_left, get_or_read, get_or-take, length-take-le}
 use Rattle.semiring.specs.Algebra.{Algebra}
 use Rattle.semiring.proofs.Dioid.{dioid}
 use Rattle.semiring.proofs.Order
@@ -42,6 +42,16 @@ module _ {K : Type 0} (k : Algebra K) (g : List ℕ → K) (r : ℕ) where
   held_passed branches weights i all before apart =
       let rule = rule_of (get_or branches i no_branch) (get_or weights i k.zero) in
       rw (add-one i) (before ∙ sym (k.laws.plus_zero (over k (rules_of k i branches weights) g r)) ∙ ap (k.plus _) (sym (cond-false (eqb rule.routine r) _ k.zero (ne_eqb rule.routine r apart))) ∙ sym (over_push (rules_of k i branches weights) rule))
+
+pub table_ext : {A : Type 0} (f g : ℕ → A) (n : ℕ) → ((i : ℕ) → i < n → f i ≡ g i) → table f n ≡ table g n
+table_ext f g zero same = refl
+table_ext f g (suc n) same =
+    ap₂ (λ xs x. xs ++ x ∷ []) (table_ext f g n (λ i l. same i (omega arith))) (same n (omega arith))
+
+-- The rules of the first `held` places are those of the two slices cut there.
+pub held_cut : {K : Type 0} (k : Algebra K) (held : ℕ) (branches : List Branch) (weights : List K) → held ≤ length branches → rules_of k (length (take held branches)) (take held branches) (take held weights) ≡ rules_of k held branches weights
+held_cut k held branches weights within =
+    ap (λ n. rules_of k n (take held branches) (take held weights)) (length-take-le held branches within) ∙ table_ext _ _ held (λ i l. ap₂ rule_of (get_or-take held branches i no_branch l) (get_or-take held weights i k.zero l))
 
 -- A slice that is written from the front.
 module _ {A : Type 0} (f : ℕ → A) where

@@ -1,0 +1,116 @@
+// The rules that lie in two lent slices: branches, with the weight of each.
+ghost use Rattle.std.specs.Prelude.{◌≡◌, length};
+
+use crate::{called, others, value_at};
+use script::branch::Branch;
+use semiring::Semiring;
+
+// Rule i is branch i with weight i.
+#[derive(Drop)]
+pub struct Rules<'a, K> {
+    branches: &'a [Branch],
+    weights: &'a [K],
+    ghost paired: { length weights.now ≡ length branches.now },
+}
+
+impl<'a, K: Semiring> Rules<'a, K> {
+    ghost use Rattle.std.specs.Prelude.{◌*◌, ◌≤◌, true, false};
+    ghost use Rattle.linear.specs.System.{entry_at};
+    ghost use Rattle.equations.specs.Held.{rules_of, listed, written, rows};
+    ghost use Rattle.equations.specs.Equations.{image, slope, Solves};
+    ghost use Rattle.equations.specs.Convergence.{Convergence};
+
+    // The first `held` branches with their weights.
+    pub fn held(held: usize, branches: &'a [Branch], weights: &'a [K]) -> Rules<'a, K>
+        requires branches { held ≤ length branches.now }
+        requires weights { held ≤ length weights.now }
+        ensures { listed K.algebra result ≡ rules_of K.algebra held branches.now weights.now }
+    {
+        Rules {
+            branches: &branches[..held],
+            weights: &weights[..held],
+        }
+    }
+
+    // f at routine r.
+    pub fn image_at(&self, values: &[K], r: usize) -> K
+        ensures { result
+            ≡ image K.algebra (listed K.algebra self.now) (entry_at K.algebra values.now) r }
+    {
+        let mut all = K::zero();
+        for i in 0..self.branches.len() {
+            if self.branches[i].routine as usize == r {
+                all = all.sum(self.weights[i].product(called(
+                    values,
+                    self.branches[i].counted_calls(),
+                )));
+            }
+        }
+        all
+    }
+
+    // The slope of f in row r, place q.
+    pub fn slope_at(&self, values: &[K], r: usize, q: usize) -> K
+        ensures { result
+            ≡ slope K.algebra (listed K.algebra self.now) (entry_at K.algebra values.now) r q }
+    {
+        let mut slope = K::zero();
+        for i in 0..self.branches.len() {
+            if self.branches[i].routine as usize == r {
+                slope = slope.sum(self.weights[i].product(others(
+                    values,
+                    q,
+                    self.branches[i].counted_calls(),
+                )));
+            }
+        }
+        slope
+    }
+
+    // Fills the first n places of a column with f.
+    pub fn image(&self, n: usize, values: &[K], column: &mut [K])
+        requires { n ≤ length column.old }
+        ensures { column.new
+            ≡ written
+            (image K.algebra (listed K.algebra self.now) (entry_at K.algebra values.now))
+            n
+            column.old }
+    {
+        for r in 0..n {
+            column[r] = self.image_at(values, r);
+        }
+    }
+
+    // Fills the first n × n places of a grid with the slopes: row r, place q at r × n + q.
+    pub fn slopes(&self, n: usize, values: &[K], grid: &mut [K])
+        requires { n * n ≤ length grid.old }
+        ensures { grid.new
+            ≡ written
+            (rows n (slope K.algebra (listed K.algebra self.now) (entry_at K.algebra values.now)))
+            (n * n)
+            grid.old }
+    {
+        for i in 0..n * n {
+            grid[i] = self.slope_at(values, i / n, i % n);
+        }
+    }
+
+    // Whether the values solve the equations of the routines below n. With it, why that is asked:
+    // reached values that solve them are the sum over all runs, and n rounds suffice.
+    pub fn solves(&self, n: usize, values: &[K]) -> bool
+        ensures yes { result ≡ true
+            → Solves K.algebra n (listed K.algebra self.now) (entry_at K.algebra values.now) }
+        ensures no { result ≡ false
+            → Solves K.algebra n (listed K.algebra self.now) (entry_at K.algebra values.now)
+            → ⊥ }
+        ensures convergence { Convergence K.algebra }
+    {
+        for routine in 0..n {
+            let image = self.image_at(values, routine);
+            if !value_at(values, routine).same(image) {
+                return false;
+            }
+        }
+        true
+    }
+}
