@@ -33,15 +33,15 @@ module _ {K : Type 0} (k : Algebra K) (g : List ℕ → K) (r : ℕ) where
   over_push (first ∷ rules) rule = ap (k.plus _) (over_push rules rule) ∙ sym (k.laws.plus_assoc _ (over k rules g r) _)
 
   -- One held branch more, which is one of r, or not.
-  pub held_taken : (branches : List Branch) (weights : List K) (i : ℕ) (all w : K) (calls : List ℕ) (p t all' : K) → all ≡ over k (rules_of k i branches weights) g r → (get_or branches i no_branch).routine ≡ r → i < length weights → w ≡ get_or weights i w → calls ≡ take (get_or branches i no_branch).count (get_or branches i no_branch).calls → p ≡ g calls → t ≡ k.times w p → all' ≡ k.plus all t → all' ≡ over k (rules_of k (i + 1) branches weights) g r
-  held_taken branches weights i all w calls p t all' before names within weight meant part product is =
+  pub held_taken : (branches : List Branch) (weights : List K) (i : ℕ) (b : Branch) (w all p t all' : K) → b ≡ get_or branches i no_branch → w ≡ get_or weights i k.zero → all ≡ over k (rules_of k i branches weights) g r → b.routine ≡ r → p ≡ g (take b.count b.calls) → t ≡ k.times w p → all' ≡ k.plus all t → all' ≡ over k (rules_of k (i + 1) branches weights) g r
+  held_taken branches weights i b w all p t all' branch weight before names part product is =
       let rule = rule_of (get_or branches i no_branch) (get_or weights i k.zero) in
-      rw (add-one i) (is ∙ ap₂ k.plus before (product ∙ ap₂ k.times (get_or_read weights i w within weight k.zero) (part ∙ ap g meant) ∙ sym (cond-true (eqb rule.routine r) _ k.zero (eq-eqb rule.routine r names))) ∙ sym (over_push (rules_of k i branches weights) rule))
+      rw (add-one i) (is ∙ ap₂ k.plus before (product ∙ ap₂ k.times weight (part ∙ ap (λ (b : Branch). g (take b.count b.calls)) branch) ∙ sym (cond-true (eqb rule.routine r) _ k.zero (eq-eqb rule.routine r (ap (λ (b : Branch). b.routine) (sym branch) ∙ names)))) ∙ sym (over_push (rules_of k i branches weights) rule))
 
-  pub held_passed : (branches : List Branch) (weights : List K) (i : ℕ) (all : K) → all ≡ over k (rules_of k i branches weights) g r → ((get_or branches i no_branch).routine ≡ r → ⊥) → all ≡ over k (rules_of k (i + 1) branches weights) g r
-  held_passed branches weights i all before apart =
+  pub held_passed : (branches : List Branch) (weights : List K) (i : ℕ) (b : Branch) (all : K) → b ≡ get_or branches i no_branch → all ≡ over k (rules_of k i branches weights) g r → (b.routine ≡ r → ⊥) → all ≡ over k (rules_of k (i + 1) branches weights) g r
+  held_passed branches weights i b all branch before apart =
       let rule = rule_of (get_or branches i no_branch) (get_or weights i k.zero) in
-      rw (add-one i) (before ∙ sym (k.laws.plus_zero (over k (rules_of k i branches weights) g r)) ∙ ap (k.plus _) (sym (cond-false (eqb rule.routine r) _ k.zero (ne_eqb rule.routine r apart))) ∙ sym (over_push (rules_of k i branches weights) rule))
+      rw (add-one i) (before ∙ sym (k.laws.plus_zero (over k (rules_of k i branches weights) g r)) ∙ ap (k.plus _) (sym (cond-false (eqb rule.routine r) _ k.zero (ne_eqb rule.routine r (λ e. apart (ap (λ (b : Branch). b.routine) branch ∙ e))))) ∙ sym (over_push (rules_of k i branches weights) rule))
 
 pub table_ext : {A : Type 0} (f g : ℕ → A) (n : ℕ) → ((i : ℕ) → i < n → f i ≡ g i) → table f n ≡ table g n
 table_ext f g zero same = refl

@@ -14,10 +14,11 @@ pub struct Rules<'a, K> {
 }
 
 impl<'a, K: Semiring> Rules<'a, K> {
-    ghost use Rattle.std.specs.Prelude.{◌*◌, ◌≤◌, true, false};
+    ghost use Rattle.std.specs.Prelude.{ℕ, ◌*◌, ◌≤◌, List, true, false};
+    ghost use Rattle.std.specs.Fn.{FnReturnsAt};
     ghost use Rattle.linear.specs.System.{entry_at};
     ghost use Rattle.equations.specs.Held.{rules_of, listed, written, rows};
-    ghost use Rattle.equations.specs.Equations.{image, slope, Solves};
+    ghost use Rattle.equations.specs.Equations.{over, image, slope, Solves};
     ghost use Rattle.equations.specs.Convergence.{Convergence};
 
     // The first `held` branches with their weights.
@@ -32,21 +33,28 @@ impl<'a, K: Semiring> Rules<'a, K> {
         }
     }
 
+    // The sum, over the rules of routine r, of the weight times what the calls are worth.
+    fn over<F: Fn(&[u8]) -> K>(&self, r: usize, worth: F) -> K
+        requires { F.IsAlwaysCallable worth }
+        ensures { (g : List ℕ → K)
+            → ((calls : List ℕ) (x : K) → FnReturnsAt F.Fn worth calls x → x ≡ g calls)
+            → result ≡ over K.algebra (listed K.algebra self.now) g r }
+    {
+        let mut all = K::zero();
+        for (branch, weight) in self.branches.iter().zip(self.weights) {
+            if branch.routine as usize == r {
+                all = all.sum(weight.product(worth(branch.counted_calls())));
+            }
+        }
+        all
+    }
+
     // f at routine r.
     pub fn image_at(&self, values: &[K], r: usize) -> K
         ensures { result
             ≡ image K.algebra (listed K.algebra self.now) (entry_at K.algebra values.now) r }
     {
-        let mut all = K::zero();
-        for i in 0..self.branches.len() {
-            if self.branches[i].routine as usize == r {
-                all = all.sum(self.weights[i].product(called(
-                    values,
-                    self.branches[i].counted_calls(),
-                )));
-            }
-        }
-        all
+        self.over(r, |calls| called(values, calls))
     }
 
     // The slope of f in row r, place q.
@@ -54,17 +62,7 @@ impl<'a, K: Semiring> Rules<'a, K> {
         ensures { result
             ≡ slope K.algebra (listed K.algebra self.now) (entry_at K.algebra values.now) r q }
     {
-        let mut slope = K::zero();
-        for i in 0..self.branches.len() {
-            if self.branches[i].routine as usize == r {
-                slope = slope.sum(self.weights[i].product(others(
-                    values,
-                    q,
-                    self.branches[i].counted_calls(),
-                )));
-            }
-        }
-        slope
+        self.over(r, |calls| others(values, q, calls))
     }
 
     // Fills the first n places of a column with f.
@@ -76,8 +74,8 @@ impl<'a, K: Semiring> Rules<'a, K> {
             n
             column.old }
     {
-        for r in 0..n {
-            column[r] = self.image_at(values, r);
+        for (r, place) in column[..n].iter_mut().enumerate() {
+            *place = self.image_at(values, r);
         }
     }
 
@@ -90,8 +88,8 @@ impl<'a, K: Semiring> Rules<'a, K> {
             (n * n)
             grid.old }
     {
-        for i in 0..n * n {
-            grid[i] = self.slope_at(values, i / n, i % n);
+        for (i, place) in grid[..n * n].iter_mut().enumerate() {
+            *place = self.slope_at(values, i / n, i % n);
         }
     }
 
@@ -105,12 +103,6 @@ impl<'a, K: Semiring> Rules<'a, K> {
             → ⊥ }
         ensures convergence { Convergence K.algebra }
     {
-        for routine in 0..n {
-            let image = self.image_at(values, routine);
-            if !value_at(values, routine).same(image) {
-                return false;
-            }
-        }
-        true
+        (0..n).all(|r| value_at(values, r).same(self.image_at(values, r)))
     }
 }

@@ -5,4 +5,6 @@ use Rattle.equations.specs.Equations.{image}
 use Rattle.equations.proofs.rules.Rules.image.Given as goal
 
 abbrev pub invariant-loop-r : goal.invariant-loop-r
-invariant-loop-r g l = let k = g.K.Semiring.algebra in l.column ≡ written (image k (listed k l.self) (entry_at k l.values)) l.r l.initial.column
+invariant-loop-r g l =
+    let k = g.K.Semiring.algebra in
+    l.place-items ≡ written (image k (listed k l.self) (entry_at k l.values)) l.r l.initial.place-items

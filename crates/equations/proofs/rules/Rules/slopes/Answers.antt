@@ -8,4 +8,4 @@ use Rattle.equations.proofs.rules.Rules.slopes.Goals as goal
 pub loop-i-preserved : goal.loop-i-preserved
 loop-i-preserved g c =
     let k = g.K.Semiring.algebra in
-    written_more (rows c.args.n (slope k (listed k c.args.self.now) (entry_at k c.args.values.now))) c.loop-i.i c.args.grid.now c.loop-i.grid c.slope_at.result (omega arith) c.loop-i.invariant c.slope_at.ensures
+    written_more (rows c.args.n (slope k (listed k c.args.self.now) (entry_at k c.args.values.now))) c.loop-i.i _ c.loop-i.place-items c.slope_at.result c.loop-i-test.true c.loop-i.invariant c.slope_at.ensures
