@@ -6,13 +6,10 @@
 ghost use Rattle.std.specs.Prelude.{◌≡◌};
 ghost use Rattle.linear.specs.System.{entry_at};
 ghost use Rattle.equations.specs.Equations.{called, others};
-ghost use Rattle.equations.specs.Example.{ended, Example};
+ghost use Rattle.equations.specs.Example.{Example};
 
-use crate::possible::Possible;
 use semiring::Semiring;
 
-pub mod kind;
-pub mod possible;
 pub mod rules;
 
 fn value_at<K: Semiring>(values: &[K], r: usize) -> K
@@ -52,20 +49,12 @@ fn others<K: Semiring>(values: &[K], q: usize, calls: &[u8]) -> K
     }
 }
 
-// Which routines of the example have a complete run.
-fn have_runs() -> [Possible; 4]
-    ensures { result ≡ ended }
-{
-    let yes = Possible { yes: true };
-    let no = Possible { yes: false };
-    [yes, yes, yes, no]
-}
-
-// Values that are reached with n rounds, at a concrete kind and script.
-pub fn example() -> [Possible; 4]
+// Values that are reached with n rounds, at the smallest kind and a concrete script: which routines
+// have a complete run.
+pub fn example() -> [bool; 4]
     ensures { Example result }
 {
-    have_runs()
+    [true, true, true, false]
 }
 
 #[cfg(test)]
