@@ -1,6 +1,6 @@
 -- What the code reads off the slices, step by step: the calls of a branch one after the other, the
 -- held rules one after the other, and a slice that is written from the front.
-use Rattle.std.proofs.Common.{◌≡◌, ℕ, zero, suc, ◌+◌, ◌-◌, ◌*◌, ◌<◌, ◌≤◌, cond, eqb, ◌⊎◌, List, [], ◌∷◌, ◌++◌, length, get_or, take, drop, set, sym, refl, ap, ◌∙◌, ap₂, inl, inr, append_assoc, le_of_suc-le-suc, eq-or-lt_of_le, add-one, arith, length-append}
+use Rattle.std.proofs.Common.{◌≡◌, ℕ, zero, suc, ◌+◌, ◌-◌, ◌*◌, ◌<◌, ◌≤◌, cond, eqb, ◌⊎◌, List, [], ◌∷◌, ◌++◌, length, get_or, take, drop, set, fold, sym, refl, ap, ◌∙◌, ap₂, inl, inr, append_assoc, le_of_suc-le-suc, eq-or-lt_of_le, add-one, arith, length-append}
 use lib.Arith.{digits_lt, digits_div, digits_mod}
 use Rattle.std.proofs.lemmas.Bool.{eq-eqb, ne_eqb, cond-true, cond-false}
 use Rattle.std.proofs.lemmas.Slice.{first_rest}
@@ -15,8 +15,13 @@ use Rattle.equations.specs.Held.{table, written, rows, rule_of, no_branch, rules
 use Rattle.equations.specs.Equations.{over, called, others}
 
 module _ {K : Type 0} (k : Algebra K) (v : ℕ → K) where
-  pub called_more : (calls : List ℕ) (a b w : K) → 0 < length calls → a ≡ v (get_or calls 0 0) → b ≡ called k v (take (length calls - 1) (drop 1 calls)) → w ≡ k.times a b → w ≡ called k v calls
-  called_more calls a b w some first rest is = is ∙ ap₂ k.times first rest ∙ sym (ap (called k v) (first_rest calls 0 some))
+  -- A product from the front is one from the back.
+  folded : (a : K) (calls : List ℕ) → fold (λ b c. k.times b (v c)) a calls ≡ k.times a (called k v calls)
+  folded a [] = sym (k.laws.times_one a)
+  folded a (c ∷ calls) = folded (k.times a (v c)) calls ∙ k.laws.times_assoc a (v c) (called k v calls)
+
+  pub called_folded : (calls : List ℕ) → fold (λ b c. k.times b (v c)) k.one calls ≡ called k v calls
+  called_folded calls = folded k.one calls ∙ k.laws.times_comm k.one (called k v calls) ∙ k.laws.times_one (called k v calls)
 
   -- The first call names q, or not.
   pub others_here : (q : ℕ) (calls : List ℕ) (a b c t w : K) → 0 < length calls → get_or calls 0 0 ≡ q → a ≡ v (get_or calls 0 0) → b ≡ others k v q (take (length calls - 1) (drop 1 calls)) → c ≡ called k v (take (length calls - 1) (drop 1 calls)) → t ≡ k.times a b → w ≡ k.plus c t → w ≡ others k v q calls

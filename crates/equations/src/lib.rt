@@ -15,21 +15,16 @@ pub mod rules;
 fn value_at<K: Semiring>(values: &[K], r: usize) -> K
     ensures { result ≡ entry_at K.algebra values.now r }
 {
-    if r < values.len() {
-        values[r]
-    } else {
-        K::zero()
-    }
+    values.get(r).copied().unwrap_or(K::zero())
 }
 
 // The product of the values of the calls.
 fn called<K: Semiring>(values: &[K], calls: &[u8]) -> K
     ensures { result ≡ called K.algebra (entry_at K.algebra values.now) calls.now }
 {
-    match calls {
-        [] => K::one(),
-        [first, rest @ ..] => value_at(values, *first as usize).product(called(values, rest)),
-    }
+    calls.iter().fold(K::one(), |all, call| {
+        all.product(value_at(values, *call as usize))
+    })
 }
 
 // The sum, over the calls of routine q, of the product of the values of the other calls.

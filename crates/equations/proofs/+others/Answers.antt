@@ -5,11 +5,6 @@ use Rattle.equations.specs.Equations.{others}
 use Rattle.equations.proofs.Slices.{others_here, others_past}
 use Rattle.equations.proofs.+others.Goals as goal
 
-pub returns-in-empty : goal.returns-in-empty
-returns-in-empty g t c =
-    let k = g.K.Semiring.algebra in
-    c.zero.ensures ∙ sym (ap (others k (entry_at k c.args.values.now) c.args.q) (nil_from_length c.args.calls.now (omega (arith, tests))))
-
 pub returns-then-first-q : goal.returns-then-first-q
 returns-then-first-q g t c =
     let k = g.K.Semiring.algebra in
