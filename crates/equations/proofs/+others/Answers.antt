@@ -1,7 +1,5 @@
-use Rattle.std.proofs.Common.{sym, ap, ◌∙◌, arith, rules, tests}
-use Rattle.std.proofs.lemmas.List.{nil_from_length}
+use Rattle.std.proofs.Common.{rules}
 use Rattle.linear.specs.System.{entry_at}
-use Rattle.equations.specs.Equations.{others}
 use Rattle.equations.proofs.Slices.{others_here, others_past}
 use Rattle.equations.proofs.+others.Goals as goal
 

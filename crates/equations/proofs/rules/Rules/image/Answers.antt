@@ -1,5 +1,3 @@
-use Rattle.std.proofs.Common.{arith}
-use Rattle.std.proofs.lemmas.List.{length-take}
 use Rattle.linear.specs.System.{entry_at}
 use Rattle.equations.specs.Held.{listed}
 use Rattle.equations.specs.Equations.{image}

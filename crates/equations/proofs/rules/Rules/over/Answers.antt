@@ -1,5 +1,4 @@
-use Rattle.std.proofs.Common.{refl, ap, ◌∙◌, subst, sym, arith, ℕ, ◌≡◌, ◌+◌, length}
-use Rattle.std.proofs.lemmas.Fn.{says_at}
+use Rattle.std.proofs.Common.{ap, ◌∙◌, arith, ℕ, ◌≡◌, length}
 use Rattle.std.proofs.lemmas.List.{length_push}
 use Rattle.std.proofs.lemmas.Slice.Zip.{zip_turn, zip_end}
 use Rattle.equations.specs.Held.{rules_of, no_branch}

@@ -1,4 +1,3 @@
-use Rattle.std.proofs.Common.{arith}
 use Rattle.linear.specs.System.{entry_at}
 use Rattle.equations.specs.Held.{listed, rows}
 use Rattle.equations.specs.Equations.{slope}
