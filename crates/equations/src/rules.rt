@@ -66,6 +66,7 @@ impl<'a, K: Semiring> Rules<'a, K> {
     }
 
     // Fills the first n places of a column with f.
+    #[tactic(auto, using(crate::proofs::Slices::written_more))]
     pub fn image(&self, n: usize, values: &[K], column: &mut [K])
         requires { n ≤ length column.old }
         ensures { column.new
@@ -80,6 +81,7 @@ impl<'a, K: Semiring> Rules<'a, K> {
     }
 
     // Fills the first n × n places of a grid with the slopes: row r, place q at r × n + q.
+    #[tactic(auto, using(crate::proofs::Slices::written_more))]
     pub fn slopes(&self, n: usize, values: &[K], grid: &mut [K])
         requires { n * n ≤ length grid.old }
         ensures { grid.new
