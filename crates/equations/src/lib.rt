@@ -28,6 +28,7 @@ fn called<K: Semiring>(values: &[K], calls: &[u8]) -> K
 }
 
 // The sum, over the calls of routine q, of the product of the values of the other calls.
+#[tactic(auto, using(crate::proofs::Slices::others_here, crate::proofs::Slices::others_past))]
 fn others<K: Semiring>(values: &[K], q: usize, calls: &[u8]) -> K
     ensures { result ≡ others K.algebra (entry_at K.algebra values.now) q calls.now }
 {
@@ -46,6 +47,7 @@ fn others<K: Semiring>(values: &[K], q: usize, calls: &[u8]) -> K
 
 // Values that are reached with n rounds, at the smallest kind and a concrete script: which routines
 // have a complete run.
+#[tactic(auto, using(crate::proofs::FourRoutines::example_holds))]
 pub fn example() -> [bool; 4]
     ensures { Example result }
 {

@@ -22,6 +22,7 @@ impl<'a, K: Semiring> Rules<'a, K> {
     ghost use Rattle.equations.specs.Convergence.{Convergence};
 
     // The first `held` branches with their weights.
+    #[tactic(auto, using(crate::proofs::Slices::held_cut))]
     pub fn held(held: usize, branches: &'a [Branch], weights: &'a [K]) -> Rules<'a, K>
         requires branches { held ≤ length branches.now }
         requires weights { held ≤ length weights.now }
