@@ -1,6 +1,6 @@
 -- What every start, climb and round keeps, and what it comes to: reached values that solve the
 -- equations are the sum over all runs, and n rounds suffice.
-use Rattle.std.proofs.Common.{◌≡◌, ℕ, zero, suc, ◌<◌, ◌⊎◌, List, [], ◌∷◌, length, sym, refl, subst, inl, inr, le_of_suc-le-suc, eq-or-lt_of_le, arith}
+use Rattle.std.proofs.Common.{◌≡◌, ℕ, zero, suc, ◌<◌, ◌⊎◌, List, [], ◌∷◌, length, sym, refl, inl, inr, le_of_suc-le-suc, eq-or-lt_of_le, arith}
 use mathlib.Core.List.{Memᴰ}
 use Rattle.semiring.specs.Algebra.{Algebra, Under}
 use Rattle.semiring.proofs.Dioid.{dioid}

@@ -16,7 +16,7 @@ use Rattle.equations.proofs.Converging.{convergence}
 pub image_least : {K : Type 0} (k : Algebra K) (n : ℕ) (script : List (Rule K)) (v x : ℕ → K) → Image k n script v x → ((r : ℕ) → r < n → x r ≡ right_side k n (slope k script v) (image k script v) x r) → Least k n (slope k script v) (image k script v) x
 image_least k n script v x is solves = record {
   solves = solves;
-  least = λ y h r l. Order.under_trans (dioid k) (Order.equal_under (dioid k) (is r l)) (Order.plus_parts (dioid k) (h r l)).1;
+  least = λ y h r l. rw (is r l) (Order.plus_parts (dioid k) (h r l)).1;
 }
 
 -- Two functions of the four routines, place by place.
