@@ -1,6 +1,6 @@
 -- What every start, climb and round keeps, and what it comes to: reached values that solve the
 -- equations are the sum over all runs, and n rounds suffice.
-use Rattle.std.proofs.Common.{◌≡◌, ℕ, zero, suc, ◌<◌, ◌⊎◌, List, [], ◌∷◌, length, sym, refl, subst, inl, inr, le_of_suc-le-suc, eq-or-lt_of_le, arith}
+use Rattle.std.proofs.Common.{◌≡◌, ℕ, zero, suc, ◌<◌, ◌⊎◌, List, [], ◌∷◌, length, sym, refl, inl, inr, le_of_suc-le-suc, eq-or-lt_of_le, arith}
 use mathlib.Core.List.{Memᴰ}
 use Rattle.semiring.specs.Algebra.{Algebra, Under}
 use Rattle.semiring.proofs.Dioid.{dioid}
@@ -54,9 +54,9 @@ module _ {K : Type 0} (k : Algebra K) (n : ℕ) (script : List (Rule K)) (within
 
   kept_start : (x : ℕ → K) → Image k n script (λ r. k.zero) x → Kept k n script x zero
   kept_start x e = record {
-    rising = λ r l. Order.under_trans (dioid k) (Order.equal_under (dioid k) (e r l)) (image_mono k n (λ q. k.zero) x (zero_below x) script within r);
-    least = λ y h r l. Order.under_trans (dioid k) (Order.equal_under (dioid k) (e r l)) (Order.under_trans (dioid k) (image_mono k n (λ q. k.zero) y (zero_below y) script within r) (h r l));
-    finite = λ r l. subst (Finite k script (r ∷ [])) (sym (e r l)) (finite_image k script (λ q. k.zero) n within (λ q m. finite_zero k script) r);
+    rising = λ r l. rw (e r l) (image_mono k n (λ q. k.zero) x (zero_below x) script within r);
+    least = λ y h r l. rw (e r l) (Order.under_trans (dioid k) (image_mono k n (λ q. k.zero) y (zero_below y) script within r) (h r l));
+    finite = λ r l. rw (e r l) (finite_image k script (λ q. k.zero) n within (λ q m. finite_zero k script) r);
     covers = covered;
   }
     where
@@ -66,25 +66,25 @@ module _ {K : Type 0} (k : Algebra K) (n : ℕ) (script : List (Rule K)) (within
 
   kept_climb : (v x : ℕ → K) (rounds : ℕ) → Kept k n script v rounds → Image k n script v x → Kept k n script x rounds
   kept_climb v x rounds kept e = record {
-    rising = λ r l. Order.under_trans (dioid k) (Order.equal_under (dioid k) (e r l)) (image_mono k n v x above script within r);
-    least = λ y h r l. Order.under_trans (dioid k) (Order.equal_under (dioid k) (e r l)) (Order.under_trans (dioid k) (image_mono k n v y (kept.least y h) script within r) (h r l));
-    finite = λ r l. subst (Finite k script (r ∷ [])) (sym (e r l)) (finite_image k script v n within kept.finite r);
+    rising = λ r l. rw (e r l) (image_mono k n v x above script within r);
+    least = λ y h r l. rw (e r l) (Order.under_trans (dioid k) (image_mono k n v y (kept.least y h) script within r) (h r l));
+    finite = λ r l. rw (e r l) (finite_image k script v n within kept.finite r);
     covers = λ r l run low. Order.under_trans (dioid k) (kept.covers r l run low) (above r l);
   }
     where
       above : LiesUnder k n v x
-      above r l = Order.under_trans (dioid k) (kept.rising r l) (Order.equal_under (dioid k) (sym (e r l)))
+      above r l = rw (e r l) (kept.rising r l)
 
   kept_round : (v x : ℕ → K) (rounds : ℕ) → Kept k n script v rounds → Least k n (slope k script v) (image k script v) x → Kept k n script x (suc rounds)
   kept_round v x rounds kept solution = record {
-    rising = λ r l. Order.under_trans (dioid k) (Order.equal_under (dioid k) (solution.solves r l)) (tangent k n v x above script within r);
+    rising = λ r l. rw (solution.solves r l) (tangent k n v x above script within r);
     least = λ y h. solution.least y (λ r l. Order.under_trans (dioid k) (tangent k n v y (kept.least y h) script within r) (h r l));
     finite = least_in k n (slope k script v) (image k script v) (λ r. Finite k script (r ∷ [])) (λ r. finite_zero k script) (λ r a b. finite_plus k script) (λ r q l m a. finite_slope k script v n within kept.finite r q a) (λ r l. finite_image k script v n within kept.finite r) x solution;
     covers = round_covers k n script within v rounds kept.covers x solution;
   }
     where
       above : LiesUnder k n v x
-      above r l = Order.under_trans (dioid k) (kept.rising r l) (Order.under_trans (dioid k) (Order.under_plus_right (dioid k) _ (image k script v r)) (Order.equal_under (dioid k) (sym (solution.solves r l))))
+      above r l = rw (solution.solves r l) (Order.under_trans (dioid k) (kept.rising r l) (Order.under_plus_right (dioid k) _ (image k script v r)))
 
   kept : (v : ℕ → K) (rounds : ℕ) → Reached k n script v rounds → Kept k n script v rounds
   kept v rounds (start {x} e) = kept_start x e
@@ -114,7 +114,7 @@ module _ {K : Type 0} (k : Algebra K) (n : ℕ) (script : List (Rule K)) (within
   covers_all : (v : ℕ → K) → Covers k n script v n → (r : ℕ) → r < n → (run : Run script r) → Under k (weight k run) (v r)
   covers_all v covers r l run =
       let low = compact k script (suc (size run)) n (below n) (omega (arith, length-below n)) r run (omega arith) (inside_below run) in
-      subst (λ a. Under k a (v r)) low.1 (covers r l low.0 low.2)
+      rw (← low.1) (covers r l low.0 low.2)
 
   enough : (v : ℕ → K) → Reached k n script v n → Solves k n script v
   enough v reached r l =

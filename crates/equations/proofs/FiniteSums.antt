@@ -1,6 +1,6 @@
 -- Finite sums of weights of runs: zero is one, sums and products of them are, f of them is, and so
 -- is a slope times one of them.
-use Rattle.std.proofs.Common.{◌≡◌, ℕ, ◌<◌, cond, eqb, List, [], ◌∷◌, ◌++◌, map, sym, refl, ap, ◌∙◌, subst, ap₂}
+use Rattle.std.proofs.Common.{◌≡◌, ℕ, ◌<◌, cond, eqb, List, [], ◌∷◌, ◌++◌, map, sym, refl, ap, ◌∙◌, ap₂}
 use mathlib.Core.List.{map-append, Memᴰ}
 use Rattle.std.proofs.lemmas.Bool.{eqb-true, cond_both}
 use Rattle.semiring.specs.Algebra.{Algebra}
@@ -47,12 +47,12 @@ module _ {K : Type 0} (k : Algebra K) (script : List (Rule K)) where
       each (u ∷ us) = k.laws.times_plus c (weight k u) (total k (map (weight k) us)) ∙ ap₂ k.plus (sym (scaled u)) (each us)
 
   pub finite_times : {r : ℕ} {qs : List ℕ} {a b : K} → Finite k script (r ∷ []) a → Finite k script qs b → Finite k script (r ∷ qs) (k.times a b)
-  finite_times {r} {qs} {b} (runs, e) f = subst (λ x. Finite k script (r ∷ qs) (k.times x b)) (sym e) (each runs)
+  finite_times {r} {qs} {b} (runs, e) f = rw e (each runs)
     where
       each : (ts : List (Run script r)) → Finite k script (r ∷ qs) (k.times (total k (map (weight k) ts)) b)
-      each [] = subst (Finite k script (r ∷ qs)) (sym (Order.zero_times (dioid k) b)) finite_zero
+      each [] = rw (Order.zero_times (dioid k) b) finite_zero
       each (t ∷ ts) =
-          subst (Finite k script (r ∷ qs)) (sym (Order.plus_times (dioid k) (weight k t) (total k (map (weight k) ts)) b)) (finite_plus (finite_scale (weight k t) (beside t) (beside_weight k t) f) (each ts))
+          rw (Order.plus_times (dioid k) (weight k t) (total k (map (weight k) ts)) b) (finite_plus (finite_scale (weight k t) (beside t) (beside_weight k t) f) (each ts))
 
   -- The sum, over the rules of r, of the weight times a finite sum of runs of the calls.
   pub finite_over : (g : List ℕ → K) → ((rule : Rule K) → Memᴰ rule script → Finite k script rule.calls (g rule.calls)) → (r : ℕ) → Finite k script (r ∷ []) (over k script g r)
@@ -62,7 +62,7 @@ module _ {K : Type 0} (k : Algebra K) (script : List (Rule K)) where
       go [] part = finite_zero
       go (rule ∷ rules) part =
           let m = part rule (Memᴰ.head refl) in
-          finite_plus (cond_both (eqb rule.routine r) (k.times rule.weight (g rule.calls)) k.zero (Finite k script (r ∷ [])) (λ e. subst (λ q. Finite k script (q ∷ []) (k.times rule.weight (g rule.calls))) (eqb-true rule.routine r e) (finite_scale rule.weight (λ children. more m children none) (single_weight k m) (each rule m))) (λ e. finite_zero)) (go rules (λ other m. part other (Memᴰ.tail m)))
+          finite_plus (cond_both (eqb rule.routine r) (k.times rule.weight (g rule.calls)) k.zero (Finite k script (r ∷ [])) (λ e. rw (← eqb-true rule.routine r e) (finite_scale rule.weight (λ children. more m children none) (single_weight k m) (each rule m))) (λ e. finite_zero)) (go rules (λ other m. part other (Memᴰ.tail m)))
 
   module _ (v : ℕ → K) where
     pub finite_called : (calls : List ℕ) → ((q : ℕ) → Memᴰ q calls → Finite k script (q ∷ []) (v q)) → Finite k script calls (called k v calls)
@@ -70,14 +70,14 @@ module _ {K : Type 0} (k : Algebra K) (script : List (Rule K)) where
     finite_called (c ∷ calls) each = finite_times (each c (Memᴰ.head refl)) (finite_called calls (λ q m. each q (Memᴰ.tail m)))
 
     pub finite_others : (q : ℕ) (a : K) → Finite k script (q ∷ []) a → (calls : List ℕ) → ((c : ℕ) → Memᴰ c calls → Finite k script (c ∷ []) (v c)) → Finite k script calls (k.times (others k v q calls) a)
-    finite_others q a f [] each = subst (Finite k script []) (sym (Order.zero_times (dioid k) a)) finite_zero
+    finite_others q a f [] each = rw (Order.zero_times (dioid k) a) finite_zero
     finite_others q a f (c ∷ calls) each =
         let there = finite_times (each c (Memᴰ.head refl)) (finite_others q a f calls (λ d m. each d (Memᴰ.tail m))) in
         rw (Order.plus_times (dioid k) (cond (eqb c q) (called k v calls) k.zero) (k.times (v c) (others k v q calls)) a, k.laws.times_assoc (v c) (others k v q calls) a) (finite_plus here there)
       where
         here : Finite k script (c ∷ calls) (k.times (cond (eqb c q) (called k v calls) k.zero) a)
         here =
-            cond_both (eqb c q) (called k v calls) k.zero (λ x. Finite k script (c ∷ calls) (k.times x a)) (λ e. rw (k.laws.times_comm (called k v calls) a) (finite_times (subst (λ d. Finite k script (d ∷ []) a) (sym (eqb-true c q e)) f) (finite_called calls (λ d m. each d (Memᴰ.tail m))))) (λ e. rw (Order.zero_times (dioid k) a) finite_zero)
+            cond_both (eqb c q) (called k v calls) k.zero (λ x. Finite k script (c ∷ calls) (k.times x a)) (λ e. rw (k.laws.times_comm (called k v calls) a) (finite_times (rw (eqb-true c q e) f) (finite_called calls (λ d m. each d (Memᴰ.tail m))))) (λ e. rw (Order.zero_times (dioid k) a) finite_zero)
 
     module _ (n : ℕ) (within : Within n script) (each : (q : ℕ) → q < n → Finite k script (q ∷ []) (v q)) where
       pub finite_image : (r : ℕ) → Finite k script (r ∷ []) (image k script v r)

@@ -6,6 +6,6 @@ pub mod Pieces
 pub mod Compact
 pub mod Converging
 pub mod Slices
-pub mod Rules
+pub mod Within
 pub mod Systems
 pub mod FourRoutines

@@ -1,10 +1,10 @@
 -- What the code reads off the slices, step by step: the calls of a branch one after the other, the
 -- held rules one after the other, and a slice that is written from the front.
-use Rattle.std.proofs.Common.{◌≡◌, ℕ, zero, suc, ◌+◌, ◌-◌, ◌*◌, ◌<◌, cond, eqb, ◌⊎◌, List, [], ◌∷◌, ◌++◌, length, get_or, take, drop, set, sym, refl, ap, ◌∙◌, ap₂, inl, inr, append_assoc, le_of_suc-le-suc, eq-or-lt_of_le, add-one, arith, length-append}
+use Rattle.std.proofs.Common.{◌≡◌, ℕ, zero, suc, ◌+◌, ◌-◌, ◌*◌, ◌<◌, ◌≤◌, cond, eqb, ◌⊎◌, List, [], ◌∷◌, ◌++◌, length, get_or, take, drop, set, fold, sym, refl, ap, ◌∙◌, ap₂, inl, inr, append_assoc, le_of_suc-le-suc, eq-or-lt_of_le, add-one, arith, length-append}
 use lib.Arith.{digits_lt, digits_div, digits_mod}
 use Rattle.std.proofs.lemmas.Bool.{eq-eqb, ne_eqb, cond-true, cond-false}
 use Rattle.std.proofs.lemmas.Slice.{first_rest}
-use Rattle.std.proofs.lemmas.List.{drop_more, set_at, get_or_at, get_or_append_left, get_or_read}
+use Rattle.std.proofs.lemmas.List.{drop_more, set_at, get_or_at, get_or_append_left, get_or-take, length-take-le}
 use Rattle.semiring.specs.Algebra.{Algebra}
 use Rattle.semiring.proofs.Dioid.{dioid}
 use Rattle.semiring.proofs.Order
@@ -15,8 +15,13 @@ use Rattle.equations.specs.Held.{table, written, rows, rule_of, no_branch, rules
 use Rattle.equations.specs.Equations.{over, called, others}
 
 module _ {K : Type 0} (k : Algebra K) (v : ℕ → K) where
-  pub called_more : (calls : List ℕ) (a b w : K) → 0 < length calls → a ≡ v (get_or calls 0 0) → b ≡ called k v (take (length calls - 1) (drop 1 calls)) → w ≡ k.times a b → w ≡ called k v calls
-  called_more calls a b w some first rest is = is ∙ ap₂ k.times first rest ∙ sym (ap (called k v) (first_rest calls 0 some))
+  -- A product from the front is one from the back.
+  folded : (a : K) (calls : List ℕ) → fold (λ b c. k.times b (v c)) a calls ≡ k.times a (called k v calls)
+  folded a [] = sym (k.laws.times_one a)
+  folded a (c ∷ calls) = folded (k.times a (v c)) calls ∙ k.laws.times_assoc a (v c) (called k v calls)
+
+  pub called_folded : (calls : List ℕ) → fold (λ b c. k.times b (v c)) k.one calls ≡ called k v calls
+  called_folded calls = folded k.one calls ∙ k.laws.times_comm k.one (called k v calls) ∙ k.laws.times_one (called k v calls)
 
   -- The first call names q, or not.
   pub others_here : (q : ℕ) (calls : List ℕ) (a b c t w : K) → 0 < length calls → get_or calls 0 0 ≡ q → a ≡ v (get_or calls 0 0) → b ≡ others k v q (take (length calls - 1) (drop 1 calls)) → c ≡ called k v (take (length calls - 1) (drop 1 calls)) → t ≡ k.times a b → w ≡ k.plus c t → w ≡ others k v q calls
@@ -33,15 +38,25 @@ module _ {K : Type 0} (k : Algebra K) (g : List ℕ → K) (r : ℕ) where
   over_push (first ∷ rules) rule = ap (k.plus _) (over_push rules rule) ∙ sym (k.laws.plus_assoc _ (over k rules g r) _)
 
   -- One held branch more, which is one of r, or not.
-  pub held_taken : (branches : List Branch) (weights : List K) (i : ℕ) (all w : K) (calls : List ℕ) (p t all' : K) → all ≡ over k (rules_of k i branches weights) g r → (get_or branches i no_branch).routine ≡ r → i < length weights → w ≡ get_or weights i w → calls ≡ take (get_or branches i no_branch).count (get_or branches i no_branch).calls → p ≡ g calls → t ≡ k.times w p → all' ≡ k.plus all t → all' ≡ over k (rules_of k (i + 1) branches weights) g r
-  held_taken branches weights i all w calls p t all' before names within weight meant part product is =
+  pub held_taken : (branches : List Branch) (weights : List K) (i : ℕ) (b : Branch) (w all p t all' : K) → b ≡ get_or branches i no_branch → w ≡ get_or weights i k.zero → all ≡ over k (rules_of k i branches weights) g r → b.routine ≡ r → p ≡ g (take b.count b.calls) → t ≡ k.times w p → all' ≡ k.plus all t → all' ≡ over k (rules_of k (i + 1) branches weights) g r
+  held_taken branches weights i b w all p t all' branch weight before names part product is =
       let rule = rule_of (get_or branches i no_branch) (get_or weights i k.zero) in
-      rw (add-one i) (is ∙ ap₂ k.plus before (product ∙ ap₂ k.times (get_or_read weights i w within weight k.zero) (part ∙ ap g meant) ∙ sym (cond-true (eqb rule.routine r) _ k.zero (eq-eqb rule.routine r names))) ∙ sym (over_push (rules_of k i branches weights) rule))
+      rw (add-one i) (is ∙ ap₂ k.plus before (product ∙ ap₂ k.times weight (part ∙ ap (λ (b : Branch). g (take b.count b.calls)) branch) ∙ sym (cond-true (eqb rule.routine r) _ k.zero (eq-eqb rule.routine r (ap (λ (b : Branch). b.routine) (sym branch) ∙ names)))) ∙ sym (over_push (rules_of k i branches weights) rule))
 
-  pub held_passed : (branches : List Branch) (weights : List K) (i : ℕ) (all : K) → all ≡ over k (rules_of k i branches weights) g r → ((get_or branches i no_branch).routine ≡ r → ⊥) → all ≡ over k (rules_of k (i + 1) branches weights) g r
-  held_passed branches weights i all before apart =
+  pub held_passed : (branches : List Branch) (weights : List K) (i : ℕ) (b : Branch) (all : K) → b ≡ get_or branches i no_branch → all ≡ over k (rules_of k i branches weights) g r → (b.routine ≡ r → ⊥) → all ≡ over k (rules_of k (i + 1) branches weights) g r
+  held_passed branches weights i b all branch before apart =
       let rule = rule_of (get_or branches i no_branch) (get_or weights i k.zero) in
-      rw (add-one i) (before ∙ sym (k.laws.plus_zero (over k (rules_of k i branches weights) g r)) ∙ ap (k.plus _) (sym (cond-false (eqb rule.routine r) _ k.zero (ne_eqb rule.routine r apart))) ∙ sym (over_push (rules_of k i branches weights) rule))
+      rw (add-one i) (before ∙ sym (k.laws.plus_zero (over k (rules_of k i branches weights) g r)) ∙ ap (k.plus _) (sym (cond-false (eqb rule.routine r) _ k.zero (ne_eqb rule.routine r (λ e. apart (ap (λ (b : Branch). b.routine) branch ∙ e))))) ∙ sym (over_push (rules_of k i branches weights) rule))
+
+pub table_ext : {A : Type 0} (f g : ℕ → A) (n : ℕ) → ((i : ℕ) → i < n → f i ≡ g i) → table f n ≡ table g n
+table_ext f g zero same = refl
+table_ext f g (suc n) same =
+    ap₂ (λ xs x. xs ++ x ∷ []) (table_ext f g n (λ i l. same i (omega arith))) (same n (omega arith))
+
+-- The rules of the first `held` places are those of the two slices cut there.
+pub held_cut : {K : Type 0} (k : Algebra K) (held : ℕ) (branches : List Branch) (weights : List K) → held ≤ length branches → rules_of k (length (take held branches)) (take held branches) (take held weights) ≡ rules_of k held branches weights
+held_cut k held branches weights within =
+    ap (λ n. rules_of k n (take held branches) (take held weights)) (length-take-le held branches within) ∙ table_ext _ _ held (λ i l. ap₂ rule_of (get_or-take held branches i no_branch l) (get_or-take held weights i k.zero l))
 
 -- A slice that is written from the front.
 module _ {A : Type 0} (f : ℕ → A) where

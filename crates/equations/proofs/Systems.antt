@@ -1,6 +1,6 @@
 -- Linear systems with the same entries have the same least solutions.
-use Rattle.std.proofs.Common.{◌≡◌, ℕ, ◌<◌, sym, ap, ◌∙◌, subst, ap₂}
-use Rattle.semiring.specs.Algebra.{Algebra, Under}
+use Rattle.std.proofs.Common.{◌≡◌, ℕ, ◌<◌, ap, ◌∙◌, ap₂}
+use Rattle.semiring.specs.Algebra.{Algebra}
 use Rattle.semiring.proofs.Sums
 use Rattle.linear.specs.System.{right_side, Least}
 
@@ -11,5 +11,5 @@ module _ {K : Type 0} (k : Algebra K) (n : ℕ) (a b : ℕ → ℕ → K) (c e :
   pub least_same : (x : ℕ → K) → Least k n a c x → Least k n b e x
   least_same x solution = record {
     solves = λ r l. solution.solves r l ∙ same_side x r l;
-    least = λ y h. solution.least y (λ r l. subst (λ w. Under k w (y r)) (sym (same_side y r l)) (h r l));
+    least = λ y h. solution.least y (λ r l. rw (same_side y r l) (h r l));
   }

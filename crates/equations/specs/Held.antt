@@ -1,8 +1,9 @@
 -- The script that lies in two slices, and what is left of a slice that is written from the front.
-use Rattle.std.specs.Prelude.{ℕ, zero, suc, ◌/◌, ◌%◌, List, [], ◌∷◌, ◌++◌, take, drop, slice_index_or}
+use Rattle.std.specs.Prelude.{ℕ, zero, suc, ◌/◌, ◌%◌, List, [], ◌∷◌, ◌++◌, length, take, drop, slice_index_or}
 use Rattle.semiring.specs.Algebra.{Algebra}
 use Rattle.script.specs.declared.branch.Branch.{Branch}
 use Rattle.equations.specs.Rule.{Rule}
+use Rattle.equations.specs.declared.rules.Rules.{Rules}
 
 -- f 0, .., f (n-1).
 abbrev pub table : {A : Type 0} → (ℕ → A) → ℕ → List A
@@ -28,3 +29,7 @@ no_branch = record { routine = 0; count = 0; calls = []; seconds = 0; light = 0;
 -- The rules of the first `held` places: rule i is branch i with weight i.
 abbrev pub rules_of : {K : Type 0} → Algebra K → ℕ → List Branch → List K → List (Rule K)
 rules_of k held branches weights = table (λ i. rule_of (slice_index_or branches i no_branch) (slice_index_or weights i k.zero)) held
+
+-- The rules of a `Rules`: every branch with its weight.
+abbrev pub listed : {K : Type 0} → Algebra K → Rules K → List (Rule K)
+listed k rules = rules_of k (length rules.branches.now) rules.branches.now rules.weights.now

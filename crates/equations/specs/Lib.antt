@@ -4,5 +4,4 @@ pub mod Equations
 pub mod Run
 pub mod Reached
 pub mod Convergence
-pub mod Possible
 pub mod Example

@@ -1,8 +1,0 @@
-use Rattle.std.proofs.Common.{◌≡◌}
-use Rattle.linear.specs.System.{entry_at}
-use Rattle.equations.specs.Held.{rules_of}
-use Rattle.equations.specs.Equations.{image}
-use Rattle.equations.proofs.image_at.Given as goal
-
-abbrev pub invariant-loop-i : goal.invariant-loop-i
-invariant-loop-i g l = let k = g.K.Semiring.algebra in l.all ≡ image k (rules_of k l.i l.branches l.weights) (entry_at k l.values) l.r
