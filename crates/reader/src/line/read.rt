@@ -8,7 +8,7 @@ ghost use Rattle.reader.specs.Text.{offset};
 use super::{Calls, Row};
 use crate::names::Names;
 use crate::refusal::Refusal;
-use crate::words::{PLUS, SPACE, calls_ok, cut, name_ok, number};
+use crate::words::{NO_CALLS, PLUS, SPACE, calls_ok, cut, name_ok, number};
 use script::branch::Branch;
 use script::fault::{Cause, Fault};
 use script::place::Place;
@@ -84,10 +84,10 @@ fn number_calls(names: &mut Names, word: &[u8]) -> Option<Calls>
     requires { is_calls word.now ≡ true }
     ensures { Numbers (known names.old) (called word.now) [] result (known names.new) }
 {
-    match word {
-        [b'-'] => Some(Calls::none()),
-        _ => number_names(names, Calls::none(), word),
+    if word == NO_CALLS {
+        return Some(Calls::none());
     }
+    number_names(names, Calls::none(), word)
 }
 
 // The fault of a word that begins so far behind a place.
