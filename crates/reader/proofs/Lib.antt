@@ -3,14 +3,15 @@ pub mod Bounds
 pub mod Calling
 pub mod Cutting
 pub mod Digits
+pub mod Known
 pub mod LineBack
 pub mod Lines
 pub mod Numbering
 pub mod Opening
 pub mod Pieces
+pub mod Places
 pub mod ReadBack
 pub mod Rows
-pub mod Slots
 pub mod WrittenCalls
 pub mod WrittenLine
 pub mod WrittenWords

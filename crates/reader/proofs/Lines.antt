@@ -58,10 +58,12 @@ module _ (fault : Option Fault) (sound : fault ≡ None) (legend : Legend) (line
     at_line : left ≡ lines_feed legend line byte (l ∷ pieces line_end rest')
     at_line i = feed_behind (sound i) (lines_feed legend line byte (cut i))
 
-    -- the line is refused
-    pub next_refused : (r : Result (Option Placed) Fault) (misread : Misread) → line_refusal legend (pieces space l) ≡ Some misread → r ≡ Err (reader_fault misread.0 line (byte + misread.1)) → Gives left r left
-    next_refused r misread e is =
-        subst₂ (λ f q. Gives f q f) (sym at_line) (sym is) (gives_fault legend line byte l (pieces line_end rest') (pieces_some line_end rest') misread e)
+    -- the line is refused, and the names are as they were
+    module _ (after : Legend) (kept : after ≡ legend) where
+      pub next_refused : (r : Result (Option Placed) Fault) (misread : Misread) → line_refusal legend (pieces space l) ≡ Some misread → r ≡ Err (reader_fault misread.0 line (byte + misread.1)) → Gives left r (feed_behind fault (lines_feed after line byte (pieces line_end rest)))
+      next_refused r misread e is =
+          subst (λ m. Gives left r (feed_behind fault (lines_feed m line byte (pieces line_end rest)))) (sym kept)
+          (subst₂ (λ f q. Gives f q f) (sym at_line) (sym is) (gives_fault legend line byte l (pieces line_end rest') (pieces_some line_end rest') misread e))
 
     -- the line is read
     module _ (branch : Branch) (after : Legend) (good : line_refusal legend (pieces space l) ≡ None) (is : branch ≡ line_branch legend (pieces space l)) (met : after ≡ line_met legend (pieces space l)) where

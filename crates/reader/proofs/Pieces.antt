@@ -1,13 +1,12 @@
 -- A text with no separator is one piece; up to the first separator, what stands before it is the
 -- first piece, and the pieces of what is behind it are the others.
-use Rattle.std.proofs.Common.{◌≡◌, ℕ, ◌+◌, ◌-◌, ◌<◌, ◌==◌, Bool, true, false, nat_lt, List, [], ◌∷◌, length, take, drop, Some, None, sym, ap, ◌∙◌, arith, refl, length-drop, length-take}
+use Rattle.std.proofs.Common.{◌≡◌, ℕ, ◌+◌, ◌-◌, ◌<◌, ◌==◌, Bool, List, [], ◌∷◌, length, take, drop, Some, None, sym, ap, ◌∙◌, arith, length-drop, length-take}
 use Rattle.std.specs.List.{position, position_or_len}
-use Rattle.std.proofs.lemmas.Bool.{ltb-false}
 use Rattle.std.proofs.lemmas.List.{take_rest}
-use Rattle.std.proofs.lemmas.List.Quantifiers.{position-Some}
 use Rattle.std.proofs.lemmas.List.Splits.{slice_split_none, slice_split_first, length-slice_split}
-use Rattle.std.proofs.lemmas.List.Sums.{position_or_len_is, fails_before_first}
+use Rattle.std.proofs.lemmas.List.Sums.{fails_before_first}
 use Rattle.reader.specs.Format.{pieces}
+use Rattle.reader.proofs.Places.{placed, nowhere}
 
 -- there is always one piece
 pub pieces_some : (sep : ℕ) (xs : List ℕ) → 0 < length (pieces sep xs)
@@ -18,30 +17,21 @@ module _ (sep : ℕ) (text : List ℕ) where
   parts_at b = b == sep
 
   pub one_piece : position parts_at text ≡ None → pieces sep text ≡ text ∷ []
-  one_piece none = go (nat_lt (position_or_len parts_at text) (length text)) refl
-    where
-      go : (t : Bool) → nat_lt (position_or_len parts_at text) (length text) ≡ t → pieces sep text ≡ text ∷ []
-      go true e = absurd cc
-      go false e = slice_split_none parts_at text (λ k d below. fails_before_first parts_at text k d (omega (arith, ltb-false _ _ e)))
+  one_piece none = slice_split_none parts_at text (λ k d below. fails_before_first parts_at text k d (omega (arith, nowhere parts_at text none)))
 
   -- the parts that a cut at the first separator gives
   module _ (i : ℕ) (found : position parts_at text ≡ Some i) where
     abbrev behind : List ℕ
     behind = take (length text - (i + 1)) (drop (i + 1) text)
 
-    within : i < length text
-    within = (position-Some parts_at text i 0 found).0
-
-    first : position_or_len parts_at text ≡ i
-    first =
-        let h = position-Some parts_at text i 0 found in
-        position_or_len_is parts_at text i 0 (omega (arith, h.0)) h.2 (λ _. h.1)
+    first : (position_or_len parts_at text ≡ i) × (i < length text)
+    first = placed parts_at text i found
 
     pub cut_pieces : pieces sep text ≡ take i text ∷ pieces sep behind
     cut_pieces =
-        slice_split_first parts_at text 0 (omega (arith, first, within))
-        ∙ (λ j. take (first j) text ∷ pieces sep (drop (first j + 1) text))
+        slice_split_first parts_at text 0 (omega (arith, first))
+        ∙ (λ j. take (first.0 j) text ∷ pieces sep (drop (first.0 j + 1) text))
         ∙ ap (λ t. take i text ∷ pieces sep t) (sym (take_rest text (i + 1)))
 
     pub cut_length : length (take i text) + 1 + length behind ≡ length text
-    cut_length = simp (length-take, length-drop) (omega (arith, within))
+    cut_length = simp (length-take, length-drop) (omega (arith, first))

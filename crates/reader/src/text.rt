@@ -10,7 +10,7 @@ pub struct TextSource<'a> {
     rest: &'a [u8],
     line: usize,
     byte: usize,
-    names: Names,
+    names: Names<'a>,
     // What is wrong with the file as a whole.
     fault: Option<Fault>,
     ghost few: { line + length rest.now ≤ 20000 },

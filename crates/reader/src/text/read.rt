@@ -105,11 +105,10 @@ impl<'a> Source for TextSource<'a> {
         let Some((text, rest)) = cut(self.rest, LINE_END) else {
             return Err(fault_at(place, Refusal::Words, 0));
         };
-        let (branch, names) = read_line(self.names, text, place)?;
+        let branch = read_line(&mut self.names, text, place)?;
         self.rest = rest;
         self.line += 1;
         self.byte = self.byte + text.len() + 1;
-        self.names = names;
         Ok(Some(Placed { branch, place }))
     }
 }

@@ -1,6 +1,8 @@
 use Rattle.std.proofs.Common.{Err, refl, ap, ◌∙◌}
 use Rattle.std.proofs.lemmas.Result.{err_from_is_err_and}
+use Rattle.reader.specs.Format.{pieces, line_end}
 use Rattle.reader.specs.Known.{known}
+use Rattle.reader.specs.Text.{lines_legend}
 use Rattle.reader.proofs.Lines.{next_at_end, next_refused, next_read, next_legend}
 use Rattle.reader.proofs.text.read.TextSourceSource.next.Goals as goal
 
@@ -19,17 +21,17 @@ returns-in_err-branch c =
     let h = c.in_err-branch.ensures in
     let cut = c.in-Some-cut.ensures in
     record {
-      gives = next_refused s.fault c.in_default.is (known s.names) s.line s.byte s.rest.now c.in-Some-cut.text.now c.in-Some-cut.rest.now cut.0 c.from_residual.result h.0 h.1 (p.1 ∙ ap Err (p.2 ∙ h.2));
-      legend = refl;
+      gives = next_refused s.fault c.in_default.is (known s.names) s.line s.byte s.rest.now c.in-Some-cut.text.now c.in-Some-cut.rest.now cut.0 (known c.read_line.new.names) h.kept c.from_residual.result h.read.0 h.read.1 (p.1 ∙ ap Err (p.2 ∙ h.read.2));
+      legend = ap (λ m. lines_legend m (pieces line_end s.rest.now)) h.kept;
     }
 
 pub returns : goal.returns
 returns c =
     let s = c.args.self.now in
-    let h = c.in_ok-branch.ensures in
+    let h = c.in_ok-branch.ensures.read in
     let cut = c.in-Some-cut.ensures in
     let branch = c.in_ok-branch.branch in
-    let after = known c.in_ok-branch.names in
+    let after = known c.read_line.new.names in
     record {
       gives = next_read s.fault c.in_default.is (known s.names) s.line s.byte s.rest.now c.in-Some-cut.text.now c.in-Some-cut.rest.now cut.0 branch after h.0 h.1 h.2;
       legend = next_legend s.fault c.in_default.is (known s.names) s.line s.byte s.rest.now c.in-Some-cut.text.now c.in-Some-cut.rest.now cut.0 branch after h.0 h.1 h.2;
