@@ -94,4 +94,4 @@ met_at_end None legend line byte ls e = legend_met legend line byte ls e
 met_at_end (Some fault) legend line byte ls e = absurd (no_fault fault e)
 
 pub at_end : (s : TextSource) → AtEnd s
-at_end s = met_at_end s.fault (known s.names) s.line s.byte (pieces line_end s.rest.now)
+at_end s = met_at_end s.fault (known s.names) s.place.line s.place.byte (pieces line_end s.rest.now)
