@@ -1,6 +1,6 @@
 -- A line of five words, question by question: at the first no its refusal is the line's, and with
 -- every answer yes the line is refused for nothing.
-use Rattle.std.proofs.Common.{◌≡◌, ℕ, ◌≤◌, Bool, true, false, eqb, List, [], ◌∷◌, ◌++◌, drop, length, Some, None, Err, Option, Result, sym, refl, ap, ◌∙◌, subst₂, inl, inr, arith, length-append, length-take}
+use Rattle.std.proofs.Common.{◌≡◌, ℕ, ◌+◌, ◌≤◌, Bool, true, false, eqb, List, [], ◌∷◌, ◌++◌, drop, length, Some, None, Err, Option, Result, sym, refl, ap, ◌∙◌, subst₂, inl, inr, arith, length-append, length-take}
 use Rattle.std.specs.Result.{IsErrAnd}
 use Rattle.std.proofs.lemmas.Result.{err_from_is_err_and}
 use Rattle.script.specs.declared.branch.Branch.{Branch}
@@ -12,14 +12,25 @@ use Rattle.reader.specs.Format.{is_name, in_range, is_calls, called, value}
 use Rattle.script.specs.Legend.{Legend, number_of, met, numbers_of}
 use Rattle.reader.proofs.Calling.{length-numbers}
 use Rattle.reader.specs.Row.{fault_at, Column, Routine, Called, Refuses, Reads}
-use Rattle.reader.specs.Text.{Misread, asked, offset, few, routine_met, line_met, line_refusal, line_branch, four}
+use Rattle.reader.specs.Text.{reader_fault, Misread, asked, offset, few, routine_met, line_met, line_refusal, line_branch, four}
+
+-- a place that is so far behind another one, on its line
+pub record At (place at : Place) (n : ℕ) : Type 0 where
+  pub line : at.line ≡ place.line
+  pub byte : at.byte ≡ place.byte + n
+
+start : (place : Place) → At place place 0
+start place = record { line = refl; byte = omega arith }
+
+moved : (place at : Place) (why : Refusal) (n : ℕ) → At place at n → fault_at at why ≡ reader_fault why place.line (place.byte + n)
+moved place at why n is i = reader_fault why (is.line i) (is.byte i)
 
 asked_no : (b : Bool) (why : Refusal) (at : ℕ) (later : Option Misread) → b ≡ false → asked b why at later ≡ Some (why, at)
 asked_no b why at later e = ap (λ t. asked t why at later) e
 
 -- a line of other than five words
-pub not_five : (legend : Legend) (ws : List (List ℕ)) → eqb (length ws) 5 ≡ false → line_refusal legend ws ≡ Some (Words, 0)
-not_five legend ws e = asked_no (eqb (length ws) 5) Words 0 _ e
+pub not_five : (legend : Legend) (ws : List (List ℕ)) (place : Place) (fault : Fault) → eqb (length ws) 5 ≡ false → fault ≡ fault_at place Words → Refuses legend ws place fault
+not_five legend ws place fault e is = ((Words, 0), asked_no (eqb (length ws) 5) Words 0 _ e, is ∙ moved place place Words 0 (start place))
 
 module _ (legend : Legend) (n s l t c : List ℕ) where
   abbrev ws : List (List ℕ)
@@ -51,28 +62,28 @@ module _ (legend : Legend) (n s l t c : List ℕ) where
 
   module _ (place : Place) where
     pub bad_routine : (fault : Fault) (after : Legend) → Routine legend n place (Err fault) after → Refuses legend ws place fault
-    bad_routine fault after (inl h) = ((Name, 0), (λ i. answered (h.0 i) room seconds light turn (is_calls c) all), h.1)
-    bad_routine fault after (inr h) = ((Names, 0), (λ i. answered (h.0 i) (h.1 i) seconds light turn (is_calls c) all), h.2)
+    bad_routine fault after (inl h) = ((Name, 0), (λ i. answered (h.0 i) room seconds light turn (is_calls c) all), h.1 ∙ moved place place Name 0 (start place))
+    bad_routine fault after (inr h) = ((Names, 0), (λ i. answered (h.0 i) (h.1 i) seconds light turn (is_calls c) all), h.2 ∙ moved place place Names 0 (start place))
 
     module _ (name : is_name n ≡ true) (met : room ≡ true) where
-      pub bad_seconds : (fault : Fault) (behind : ℕ) → behind ≡ offset ws 1 → Column 3600 s place behind (Err fault) → Refuses legend ws place fault
-      bad_seconds fault behind at h = ((Number, offset ws 1), (λ i. answered (name i) (met i) (h.0 i) light turn (is_calls c) all), h.1 ∙ ap (fault_at place Number) at)
+      pub bad_seconds : (fault : Fault) (at : Place) → At place at (offset ws 1) → Column 3600 s at (Err fault) → Refuses legend ws place fault
+      bad_seconds fault at is h = ((Number, offset ws 1), (λ i. answered (name i) (met i) (h.0 i) light turn (is_calls c) all), h.1 ∙ moved place at Number _ is)
 
       module _ (seconds_ok : seconds ≡ true) where
-        pub bad_light : (fault : Fault) (behind : ℕ) → behind ≡ offset ws 2 → Column 65535 l place behind (Err fault) → Refuses legend ws place fault
-        bad_light fault behind at h = ((Number, offset ws 2), (λ i. answered (name i) (met i) (seconds_ok i) (h.0 i) turn (is_calls c) all), h.1 ∙ ap (fault_at place Number) at)
+        pub bad_light : (fault : Fault) (at : Place) → At place at (offset ws 2) → Column 65535 l at (Err fault) → Refuses legend ws place fault
+        bad_light fault at is h = ((Number, offset ws 2), (λ i. answered (name i) (met i) (seconds_ok i) (h.0 i) turn (is_calls c) all), h.1 ∙ moved place at Number _ is)
 
         module _ (light_ok : light ≡ true) where
-          pub bad_turn : (fault : Fault) (behind : ℕ) → behind ≡ offset ws 3 → Column 23 t place behind (Err fault) → Refuses legend ws place fault
-          bad_turn fault behind at h =
-              ((Number, offset ws 3), (λ i. answered (name i) (met i) (seconds_ok i) (light_ok i) (h.0 i) (is_calls c) all), h.1 ∙ ap (fault_at place Number) at)
+          pub bad_turn : (fault : Fault) (at : Place) → At place at (offset ws 3) → Column 23 t at (Err fault) → Refuses legend ws place fault
+          bad_turn fault at is h =
+              ((Number, offset ws 3), (λ i. answered (name i) (met i) (seconds_ok i) (light_ok i) (h.0 i) (is_calls c) all), h.1 ∙ moved place at Number _ is)
 
           module _ (turn_ok : turn ≡ true) where
-            pub bad_calls : (fault : Fault) (behind : ℕ) (after : Legend) → behind ≡ offset ws 4 → Called (routine_met legend ws) c place behind (Err fault) after → Refuses legend ws place fault
-            bad_calls fault behind after at (inl h) =
-                ((BadCalls, offset ws 4), (λ i. answered (name i) (met i) (seconds_ok i) (light_ok i) (turn_ok i) (h.0 i) all), h.1 ∙ ap (fault_at place BadCalls) at)
-            bad_calls fault behind after at (inr h) =
-                ((Names, offset ws 4), (λ i. answered (name i) (met i) (seconds_ok i) (light_ok i) (turn_ok i) (h.0 i) (h.1 i)), h.2 ∙ ap (fault_at place Names) at)
+            pub bad_calls : (fault : Fault) (at : Place) (after : Legend) → At place at (offset ws 4) → Called (routine_met legend ws) c at (Err fault) after → Refuses legend ws place fault
+            bad_calls fault at after is (inl h) =
+                ((BadCalls, offset ws 4), (λ i. answered (name i) (met i) (seconds_ok i) (light_ok i) (turn_ok i) (h.0 i) all), h.1 ∙ moved place at BadCalls _ is)
+            bad_calls fault at after is (inr h) =
+                ((Names, offset ws 4), (λ i. answered (name i) (met i) (seconds_ok i) (light_ok i) (turn_ok i) (h.0 i) (h.1 i)), h.2 ∙ moved place at Names _ is)
 
 pub length-four : (ns : List ℕ) → length (four ns) ≡ 4
 length-four ns = simp (length-take, length-append) (omega arith)

@@ -91,13 +91,13 @@ pub(crate) fn number(word: &[u8], most: u16) -> Option<u16>
 }
 
 fn count_calls(word: &[u8]) -> usize
-    ensures { result ≡ length (pieces 43 word.now) }
+    ensures { result ≡ length (pieces PLUS word.now) }
 {
     word.split(|b| *b == PLUS).count()
 }
 
 fn all_names(word: &[u8]) -> bool
-    ensures { result ≡ list_all is_name (pieces 43 word.now) }
+    ensures { result ≡ list_all is_name (pieces PLUS word.now) }
 {
     word.split(|b| *b == PLUS).all(name_ok)
 }

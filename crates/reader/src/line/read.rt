@@ -2,8 +2,8 @@
 ghost use Rattle.std.specs.Prelude.{◌≡◌, ◌+◌, ◌^◌, ◌<◌, ◌≤◌, true, false, length, MatchOption, OnErr, ◌==◌};
 ghost use Rattle.reader.specs.Format.{pieces, are_names, called, is_calls};
 ghost use Rattle.reader.specs.Known.{known, Grows};
-ghost use Rattle.reader.specs.Row.{Cuts, Cut, Numbers, fault_at, Column, Routine, Called, Reads};
-ghost use Rattle.reader.specs.Text.{four};
+ghost use Rattle.reader.specs.Row.{HasWords, FiveWords, Numbers, Column, Routine, Called, Reads};
+ghost use Rattle.reader.specs.Text.{four, reader_fault};
 
 use super::{Calls, Row};
 use crate::names::Names;
@@ -16,8 +16,8 @@ use script::place::Place;
 impl<'a> Row<'a> {
     // The words of a line, where there are five.
     fn of(line: &'a [u8]) -> Option<Row<'a>>
-        ensures { MatchOption result ((length (pieces 32 line.now) == 5) ≡ false)
-            (λ row. Cuts line.now row) }
+        ensures { MatchOption result ((length (pieces SPACE line.now) == 5) ≡ false)
+            (λ row. HasWords line.now row) }
     {
         let (name, rest) = cut(line, SPACE)?;
         let (seconds, rest) = cut(rest, SPACE)?;
@@ -37,9 +37,10 @@ impl<'a> Row<'a> {
 }
 
 // Numbers the names of a calls word from the left; none where there would be more than 32 names.
+// Kept: that names grow is a clause of each function that meets them; no type speaks of two moments.
 fn number_names<'a>(names: &mut Names<'a>, word: &'a [u8]) -> Option<Calls>
-    requires { are_names 4 (pieces 43 word.now) ≡ true }
-    ensures numbered { Numbers (known names.old) (pieces 43 word.now) result (known names.new) }
+    requires { are_names 4 (pieces PLUS word.now) ≡ true }
+    ensures numbered { Numbers (known names.old) (pieces PLUS word.now) result (known names.new) }
     ensures grows { Grows (known names.old) (known names.new) }
 {
     let mut calls = Calls::new();
@@ -61,57 +62,58 @@ fn number_calls<'a>(names: &mut Names<'a>, word: &'a [u8]) -> Option<Calls>
     number_names(names, word)
 }
 
-// The fault of a word that begins so far behind a place.
-pub(crate) fn fault_at(place: Place, refusal: Refusal, behind: usize) -> Fault
-    requires { place.byte + behind < 2 ^ 64 }
-    ensures { result ≡ fault_at place refusal behind }
+// A fault of the reader at a place.
+pub(crate) fn fault_at(place: Place, refusal: Refusal) -> Fault
+    ensures { result ≡ reader_fault refusal place.line place.byte }
 {
     Fault {
         cause: Cause::Reader(refusal),
-        place: Place {
-            line: place.line,
-            byte: place.byte + behind,
-        },
+        place,
     }
 }
 
-fn read_row<'a>(line: &'a [u8], place: Place) -> Result<Row<'a>, Fault>
-    ensures { Cut line.now place result }
+// The place of the next word of a line, one byte behind this word.
+fn next_place(place: Place, word: &[u8]) -> Place
+    requires { place.byte + length word.now + 1 < 2 ^ 64 }
+    ensures line { result.line ≡ place.line }
+    ensures byte { result.byte ≡ place.byte + length word.now + 1 }
 {
-    Row::of(line).ok_or(fault_at(place, Refusal::Words, 0))
+    Place {
+        line: place.line,
+        byte: place.byte + word.len() + 1,
+    }
 }
 
-fn read_number(word: &[u8], most: u16, place: Place, behind: usize) -> Result<u16, Fault>
-    requires { place.byte + behind < 2 ^ 64 }
-    ensures { Column most word.now place behind result }
+fn read_row<'a>(line: &'a [u8], at: Place) -> Result<Row<'a>, Fault>
+    ensures { FiveWords line.now at result }
 {
-    number(word, most).ok_or(fault_at(place, Refusal::Number, behind))
+    Row::of(line).ok_or(fault_at(at, Refusal::Words))
 }
 
-fn read_routine<'a>(names: &mut Names<'a>, word: &'a [u8], place: Place) -> Result<u8, Fault>
-    ensures routine { Routine (known names.old) word.now place result (known names.new) }
+fn read_number(word: &[u8], most: u16, at: Place) -> Result<u16, Fault>
+    ensures { Column most word.now at result }
+{
+    number(word, most).ok_or(fault_at(at, Refusal::Number))
+}
+
+fn read_routine<'a>(names: &mut Names<'a>, word: &'a [u8], at: Place) -> Result<u8, Fault>
+    ensures routine { Routine (known names.old) word.now at result (known names.new) }
     ensures grows { Grows (known names.old) (known names.new) }
 {
     if !name_ok(word) {
-        return Err(fault_at(place, Refusal::Name, 0));
+        return Err(fault_at(at, Refusal::Name));
     }
-    names.number(word).ok_or(fault_at(place, Refusal::Names, 0))
+    names.number(word).ok_or(fault_at(at, Refusal::Names))
 }
 
-fn read_calls<'a>(
-    names: &mut Names<'a>,
-    word: &'a [u8],
-    place: Place,
-    behind: usize,
-) -> Result<Calls, Fault>
-    requires { place.byte + behind < 2 ^ 64 }
-    ensures called { Called (known names.old) word.now place behind result (known names.new) }
+fn read_calls<'a>(names: &mut Names<'a>, word: &'a [u8], at: Place) -> Result<Calls, Fault>
+    ensures called { Called (known names.old) word.now at result (known names.new) }
     ensures grows { Grows (known names.old) (known names.new) }
 {
     if !calls_ok(word) {
-        return Err(fault_at(place, Refusal::Calls, behind));
+        return Err(fault_at(at, Refusal::Calls));
     }
-    number_calls(names, word).ok_or(fault_at(place, Refusal::Names, behind))
+    number_calls(names, word).ok_or(fault_at(at, Refusal::Names))
 }
 
 // The calls in the four places of a branch.
@@ -127,19 +129,19 @@ fn four_places(calls: &[u8]) -> [u8; 4]
 // The branch of a line, with its names met. Where the line is refused, some of them are met too.
 fn read_branch<'a>(names: &mut Names<'a>, line: &'a [u8], place: Place) -> Result<Branch, Fault>
     requires { place.byte + length line.now < 2 ^ 64 }
-    ensures read { Reads (known names.old) (pieces 32 line.now) place result (known names.new) }
+    ensures read { Reads (known names.old) (pieces SPACE line.now) place result (known names.new) }
     ensures grows { Grows (known names.old) (known names.new) }
 {
     let row = read_row(line, place)?;
     let routine = read_routine(names, row.name, place)?;
-    let seconds_at = row.name.len() + 1;
-    let seconds = read_number(row.seconds, 3600, place, seconds_at)?;
-    let light_at = seconds_at + row.seconds.len() + 1;
-    let light = read_number(row.light, 65535, place, light_at)?;
-    let turn_at = light_at + row.light.len() + 1;
-    let turn = read_number(row.turn, 23, place, turn_at)?;
-    let calls_at = turn_at + row.turn.len() + 1;
-    let calls = read_calls(names, row.calls, place, calls_at)?;
+    let seconds_at = next_place(place, row.name);
+    let seconds = read_number(row.seconds, 3600, seconds_at)?;
+    let light_at = next_place(seconds_at, row.seconds);
+    let light = read_number(row.light, 65535, light_at)?;
+    let turn_at = next_place(light_at, row.light);
+    let turn = read_number(row.turn, 23, turn_at)?;
+    let calls_at = next_place(turn_at, row.turn);
+    let calls = read_calls(names, row.calls, calls_at)?;
     Ok(Branch {
         routine,
         count: calls.len() as u8,
@@ -157,7 +159,7 @@ pub(crate) fn read_line<'a>(
     place: Place,
 ) -> Result<Branch, Fault>
     requires { place.byte + length line.now < 2 ^ 64 }
-    ensures read { Reads (known names.old) (pieces 32 line.now) place result (known names.new) }
+    ensures read { Reads (known names.old) (pieces SPACE line.now) place result (known names.new) }
     ensures kept { OnErr result (known names.new ≡ known names.old) }
 {
     let met = names.count();

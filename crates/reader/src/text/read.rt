@@ -31,8 +31,8 @@ fn too_long(text: &[u8]) -> bool
 
 // What is behind the first line, where it is the one of every file, with its end.
 fn behind_first_line(text: &[u8]) -> Option<&[u8]>
-    ensures { MatchOption result (behind_first (pieces 10 text.now) ≡ None)
-        (λ rest. (behind_first (pieces 10 text.now) ≡ Some (pieces 10 rest.now))
+    ensures { MatchOption result (behind_first (pieces LINE_END text.now) ≡ None)
+        (λ rest. (behind_first (pieces LINE_END text.now) ≡ Some (pieces LINE_END rest.now))
         × (length rest.now ≤ length text.now)) }
 {
     let (first, rest) = cut(text, LINE_END)?;
@@ -50,7 +50,7 @@ fn refused<'a>(refusal: Refusal, line: usize) -> TextSource<'a>
         rest: &[],
         place,
         names: Names::none(),
-        fault: Some(fault_at(place, refusal, 0)),
+        fault: Some(fault_at(place, refusal)),
     }
 }
 
@@ -109,7 +109,7 @@ impl<'a> Source for TextSource<'a> {
         }
         let place = self.place;
         let Some((text, rest)) = cut(self.rest, LINE_END) else {
-            return Err(fault_at(place, Refusal::Words, 0));
+            return Err(fault_at(place, Refusal::Words));
         };
         let branch = read_line(&mut self.names, text, place)?;
         self.rest = rest;
