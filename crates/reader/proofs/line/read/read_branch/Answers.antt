@@ -1,4 +1,4 @@
-use Rattle.std.proofs.Common.{◌+◌, length, Ok, Err, sym, refl, ap, ◌∙◌, subst, arith}
+use Rattle.std.proofs.Common.{Ok, Err, sym, refl, ap, ◌∙◌, subst, arith}
 use Rattle.reader.specs.Format.{pieces}
 use Rattle.reader.specs.Known.{known}
 use Rattle.reader.specs.Text.{four, line_refusal, line_branch, line_met}
