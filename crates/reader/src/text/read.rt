@@ -1,5 +1,5 @@
 // Reading a script file.
-ghost use Rattle.std.specs.Prelude.{◌≡◌, ◌+◌, ◌<◌, ◌≤◌, [], ◌∷◌, length, MatchOption, nat_lt, slice_index_or};
+ghost use Rattle.std.specs.Prelude.{◌≡◌, ◌+◌, ◌<◌, ◌≤◌, [], ◌∷◌, length, MatchOption, slice_index_or};
 ghost use Rattle.script.specs.Feed.{Gives};
 ghost use Rattle.reader.specs.declared.text.TextSource.{TextSource as Reading};
 ghost use Rattle.reader.specs.Known.{known};
@@ -22,12 +22,6 @@ use script::source::Source;
 const MOST_BYTES: usize = 16384;
 
 const FIRST_LINE: &[u8] = b"routine seconds light turn calls";
-
-fn too_long(text: &[u8]) -> bool
-    ensures { result ≡ nat_lt 16384 (length text.now) }
-{
-    text.len() > MOST_BYTES
-}
 
 // What is behind the first line, where it is the one of every file, with its end.
 fn behind_first_line(text: &[u8]) -> Option<&[u8]>
@@ -61,7 +55,7 @@ impl<'a> TextSource<'a> {
         ensures at_end { (s : Reading) → AtEnd s }
         ensures read_back { ReadBack text.now (text_left result) }
     {
-        if too_long(text) {
+        if text.len() > MOST_BYTES {
             return refused(Refusal::Size, 0);
         }
         let Some(rest) = behind_first_line(text) else {

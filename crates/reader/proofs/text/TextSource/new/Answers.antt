@@ -7,8 +7,8 @@ use Rattle.reader.proofs.Lines.{at_end}
 use Rattle.reader.proofs.ReadBack.{read_back_as}
 use Rattle.reader.proofs.text.TextSource.new.Goals as goal
 
-pub returns-then-too_long-clause-at_end : goal.returns-then-too_long-clause-at_end
-returns-then-too_long-clause-at_end c = at_end
+pub returns-then-text-gt-MOST_BYTES-clause-at_end : goal.returns-then-text-gt-MOST_BYTES-clause-at_end
+returns-then-text-gt-MOST_BYTES-clause-at_end c = at_end
 
 pub returns-in_default-clause-at_end : goal.returns-in_default-clause-at_end
 returns-in_default-clause-at_end c = at_end
