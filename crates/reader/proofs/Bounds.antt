@@ -1,22 +1,18 @@
 -- A text has few branches: at most one for each line, and at most one line end for each byte.
-use Rattle.std.proofs.Common.{ℕ, suc, ◌+◌, ◌≤◌, eqb, leb, List, [], ◌∷◌, length, Some, None, Option, arith}
+use Rattle.std.proofs.Common.{ℕ, suc, ◌+◌, ◌≤◌, ◌==◌, leb, List, [], ◌∷◌, length, Some, None, Option, arith}
 use Rattle.std.specs.Str.{bytes_eq}
 use Rattle.std.proofs.lemmas.Bool.{cond_both, leb-true}
+use Rattle.std.proofs.lemmas.List.Splits.{length-slice_split}
+use Rattle.std.proofs.lemmas.List.Sums.{count_by-le-length}
 use Rattle.script.specs.declared.branch.Placed.{Placed}
 use Rattle.script.specs.declared.refusal.reader.ReaderRefusal.TheVariants.{Size}
 use Rattle.script.specs.Feed.{Feed}
-use Rattle.reader.specs.Format.{onto, pieces, line_end, space}
+use Rattle.reader.specs.Format.{pieces, line_end, space}
 use Rattle.script.specs.Legend.{Legend}
 use Rattle.reader.specs.Text.{Misread, line_refusal, line_met, line_feed, lines_feed, first_line, behind_first, opened, text_feed, failed, reader_fault}
 
-length-onto : (b : ℕ) (ps : List (List ℕ)) (n : ℕ) → length ps ≤ n + 1 → length (onto b ps) ≤ n + 1 + 1
-length-onto b [] n h = omega arith
-length-onto b (p ∷ ps) n h = omega arith
-
 length-pieces : (sep : ℕ) (xs : List ℕ) → length (pieces sep xs) ≤ length xs + 1
-length-pieces sep [] = omega arith
-length-pieces sep (b ∷ bs) =
-    cond_both (eqb b sep) _ _ (λ ps. length ps ≤ suc (length bs) + 1) (λ e. omega (arith, length-pieces sep bs)) (λ e. omega (arith, length-onto b (pieces sep bs) (length bs) (length-pieces sep bs)))
+length-pieces sep xs = omega (arith, length-slice_split (λ b. b == sep) xs, count_by-le-length (λ b. b == sep) xs)
 
 line_items : (o : Option Misread) (item : Placed) (others : Feed) (n : ℕ) → length others.items ≤ n → length (line_feed o item others).items ≤ suc n
 line_items (Some misread) item others n h = omega arith

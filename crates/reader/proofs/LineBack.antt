@@ -9,7 +9,7 @@ use Rattle.script.specs.Legend.{Legend, met, all_met, numbers_of}
 use Rattle.reader.specs.Text.{four, line_refusal, line_branch, line_met, line_feed, lines_feed}
 use Rattle.reader.specs.Writing.{name_of, branch_calls, mentions, written_calls, written_line, GoodNames, GoodBranch, seen_after, AsMet}
 use Rattle.reader.proofs.AsMet.{Back, all_back}
-use Rattle.reader.proofs.Calling.{all_met_grows}
+use Rattle.reader.proofs.Calling.{longer, all_met_grows}
 use Rattle.reader.proofs.Cutting.{piece_before}
 use Rattle.reader.proofs.Lines.{feed_at}
 use Rattle.reader.proofs.Pieces.{pieces_some}
@@ -50,7 +50,7 @@ module _ (names : Legend) (good : GoodNames names) (b : Branch) (fits : GoodBran
   not_refused =
       good_line legend name (decimal b.seconds) (decimal b.light) (decimal b.turn) calls
       (good.formed b.routine fits.routine)
-      (le-leb _ _ (omega (arith, all_met_grows (met legend name) (called calls), length-met)))
+      (le-leb _ _ (omega (arith, longer _ _ (all_met_grows (met legend name) (called calls)), length-met)))
       (decimal_in_range b.seconds (seconds_small names b fits) 3600 fits.seconds)
       (decimal_in_range b.light (light_small names b fits) 65535 fits.light)
       (decimal_in_range b.turn (turn_small names b fits) 23 fits.turn)

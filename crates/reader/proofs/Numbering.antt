@@ -1,18 +1,7 @@
 -- A name among the names met so far: found at its place, or new and put last.
-use Rattle.std.proofs.Common.{◌≡◌, ℕ, suc, ◌+◌, ◌<◌, ◌≤◌, Bool, true, false, cond, ◌⊎◌, List, [], ◌∷◌, ◌++◌, length, get_or, drop, refl, ap, ◌∙◌, inl, inr, arith}
+use Rattle.std.proofs.Common.{◌≡◌, ℕ, suc, ◌<◌, Bool, true, false, cond, ◌⊎◌, List, [], ◌∷◌, ◌++◌, length, refl, ap, ◌∙◌, inl, inr, arith}
 use Rattle.std.specs.Str.{bytes_eq}
-use Rattle.std.proofs.lemmas.List.{at_drop_more}
 use Rattle.script.specs.Legend.{Legend, number_of, met}
-
-module _ (legend : Legend) (w : List ℕ) (i : ℕ) (within : i < length legend) where
-  here : number_of (drop i legend) w ≡ cond (bytes_eq (get_or legend i []) w) 0 (suc (number_of (drop (i + 1) legend) w))
-  here = at_drop_more (λ l. number_of l w) legend i [] within
-
-  pub number_here : bytes_eq (get_or legend i []) w ≡ true → number_of (drop i legend) w ≡ 0
-  number_here same = here ∙ ap (λ t. cond t 0 (suc (number_of (drop (i + 1) legend) w))) same
-
-  pub number_on : bytes_eq (get_or legend i []) w ≡ false → number_of (drop i legend) w ≡ suc (number_of (drop (i + 1) legend) w)
-  number_on other = here ∙ ap (λ t. cond t 0 (suc (number_of (drop (i + 1) legend) w))) other
 
 -- a name that was met has a number below the count, and meeting it again changes nothing
 abbrev pub Old : Legend → List ℕ → Type 0
@@ -33,10 +22,3 @@ old_or_new (x ∷ xs) w = go (bytes_eq x w) refl (old_or_new xs w)
     go true e h = let a = at true e in inl (omega (arith, a.0), a.1)
     go false e (inl h) = let a = at false e in inl (omega (arith, a.0, h.0), a.1 ∙ ap (λ l. x ∷ l) h.1)
     go false e (inr h) = let a = at false e in inr (a.0 ∙ ap suc h.0, a.1 ∙ ap (λ l. x ∷ l) h.1)
-
-pub number_le : (legend : Legend) (w : List ℕ) → number_of legend w ≤ length legend
-number_le legend w = go (old_or_new legend w)
-  where
-    go : Old legend w ⊎ New legend w → number_of legend w ≤ length legend
-    go (inl h) = omega (arith, h.0)
-    go (inr h) = omega (arith, h.0)

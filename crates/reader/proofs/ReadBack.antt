@@ -1,5 +1,5 @@
 -- A file that is written from branches gives exactly those branches back.
-use Rattle.std.proofs.Common.{◌≡◌, ℕ, ◌+◌, ◌≤◌, true, List, [], ◌∷◌, length, take, None, sym, refl, ap, ◌∙◌, subst, arith}
+use Rattle.std.proofs.Common.{◌≡◌, ℕ, ◌+◌, ◌≤◌, List, [], ◌∷◌, length, take, None, sym, refl, ap, ◌∙◌, subst, arith}
 use Rattle.script.specs.declared.branch.Branch.{Branch}
 use Rattle.script.specs.Feed.{Feed}
 use Rattle.reader.specs.Format.{pieces, line_end}
@@ -7,7 +7,7 @@ use Rattle.script.specs.Legend.{Legend}
 use Rattle.reader.specs.Text.{first_line, line_feed, lines_feed, text_feed}
 use Rattle.reader.specs.Writing.{mentions, written_line, written_lines, placed_lines, seen_after, GoodNames, GoodBranches, ReadBack}
 use Rattle.reader.proofs.LineBack.{seen_within, line_back}
-use Rattle.reader.proofs.Opening.{this_feed}
+use Rattle.reader.proofs.Opening.{first_feed}
 
 -- with the first `seen` names met
 lines_back : (names : Legend) → GoodNames names → (seen line byte : ℕ) (bs : List Branch) → seen ≤ length names → GoodBranches names seen bs → lines_feed (take seen names) line byte (pieces line_end (written_lines names bs)) ≡ record { items = placed_lines names line byte bs; ending = None }
@@ -19,7 +19,7 @@ lines_back names good seen line byte (b ∷ bs) within fits =
 
 pub read_back : (text : List ℕ) → ReadBack text (text_feed text)
 read_back text names bs good fits short same =
-    sym (this_feed text first_line (written_lines names bs) short (ap (pieces line_end) same) true ((λ _. refl), (λ _. refl)) refl [] refl)
+    first_feed text (written_lines names bs) short (ap (pieces line_end) same)
     ∙ lines_back names good 0 2 (length first_line + 1) bs (omega arith) fits
 
 -- for a source that gives what the text stands for

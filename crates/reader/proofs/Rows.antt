@@ -1,25 +1,36 @@
 -- A line of five words, question by question: at the first no its refusal is the line's, and with
 -- every answer yes the line is refused for nothing.
-use Rattle.std.proofs.Common.{◌≡◌, ℕ, suc, Bool, true, false, eqb, List, [], ◌∷◌, length, Some, None, Err, Option, Result, sym, refl, ap, ◌∙◌, subst₂, inl, inr, arith, length-append, length-take}
-use Rattle.std.proofs.lemmas.List.{length-take-le}
+use Rattle.std.proofs.Common.{◌≡◌, ℕ, ◌+◌, ◌≤◌, Bool, true, false, eqb, List, [], ◌∷◌, ◌++◌, drop, length, Some, None, Err, Option, Result, sym, refl, ap, ◌∙◌, subst₂, inl, inr, arith, length-append, length-take}
+use Rattle.std.specs.Result.{IsErrAnd}
+use Rattle.std.proofs.lemmas.Result.{err_from_is_err_and}
 use Rattle.script.specs.declared.branch.Branch.{Branch}
 use Rattle.script.specs.declared.fault.Fault.{Fault}
-use Rattle.reader.specs.declared.line.Calls.{Calls}
 use Rattle.script.specs.declared.place.Place.{Place}
-use Rattle.reader.specs.declared.names.Names.{Names as Known}
 use Rattle.script.specs.declared.refusal.reader.ReaderRefusal.{ReaderRefusal as Refusal}
 use Rattle.script.specs.declared.refusal.reader.ReaderRefusal.TheVariants.{Words, Name, Number, Names, Calls as BadCalls}
 use Rattle.reader.specs.Format.{is_name, in_range, is_calls, called, value}
 use Rattle.script.specs.Legend.{Legend, number_of, met, numbers_of}
-use Rattle.reader.specs.Row.{counted, fault_at, Column, Routine, Called, Reads}
-use Rattle.reader.specs.Text.{Misread, asked, offset, few, routine_met, line_met, line_refusal, line_branch, four}
+use Rattle.reader.proofs.Calling.{length-numbers}
+use Rattle.reader.specs.Row.{fault_at, Column, Routine, Called, Refuses, Reads}
+use Rattle.reader.specs.Text.{reader_fault, Misread, asked, offset, few, routine_met, line_met, line_refusal, line_branch, four}
+
+-- a place that is so far behind another one, on its line
+pub record At (place at : Place) (n : ℕ) : Type 0 where
+  pub line : at.line ≡ place.line
+  pub byte : at.byte ≡ place.byte + n
+
+start : (place : Place) → At place place 0
+start place = record { line = refl; byte = omega arith }
+
+moved : (place at : Place) (why : Refusal) (n : ℕ) → At place at n → fault_at at why ≡ reader_fault why place.line (place.byte + n)
+moved place at why n is i = reader_fault why (is.line i) (is.byte i)
 
 asked_no : (b : Bool) (why : Refusal) (at : ℕ) (later : Option Misread) → b ≡ false → asked b why at later ≡ Some (why, at)
 asked_no b why at later e = ap (λ t. asked t why at later) e
 
 -- a line of other than five words
-pub not_five : (legend : Legend) (ws : List (List ℕ)) → eqb (length ws) 5 ≡ false → line_refusal legend ws ≡ Some (Words, 0)
-not_five legend ws e = asked_no (eqb (length ws) 5) Words 0 _ e
+pub not_five : (legend : Legend) (ws : List (List ℕ)) (place : Place) (fault : Fault) → eqb (length ws) 5 ≡ false → fault ≡ fault_at place Words → Refuses legend ws place fault
+not_five legend ws place fault e is = ((Words, 0), asked_no (eqb (length ws) 5) Words 0 _ e, is ∙ moved place place Words 0 (start place))
 
 module _ (legend : Legend) (n s l t c : List ℕ) where
   abbrev ws : List (List ℕ)
@@ -50,56 +61,59 @@ module _ (legend : Legend) (n s l t c : List ℕ) where
   good_line name_ok room_ok seconds_ok light_ok turn_ok calls_ok all_ok i = answered (name_ok i) (room_ok i) (seconds_ok i) (light_ok i) (turn_ok i) (calls_ok i) (all_ok i)
 
   module _ (place : Place) where
-    pub bad_routine : (fault : Fault) (after : Legend) → Routine legend n place (Err fault) after → Reads legend ws place (Err fault)
-    bad_routine fault after (inl h) = ((Name, 0), (λ i. answered (h.0 i) room seconds light turn (is_calls c) all), h.1)
-    bad_routine fault after (inr h) = ((Names, 0), (λ i. answered (h.0 i) (h.1 i) seconds light turn (is_calls c) all), h.2)
+    pub bad_routine : (fault : Fault) (after : Legend) → Routine legend n place (Err fault) after → Refuses legend ws place fault
+    bad_routine fault after (inl h) = ((Name, 0), (λ i. answered (h.0 i) room seconds light turn (is_calls c) all), h.1 ∙ moved place place Name 0 (start place))
+    bad_routine fault after (inr h) = ((Names, 0), (λ i. answered (h.0 i) (h.1 i) seconds light turn (is_calls c) all), h.2 ∙ moved place place Names 0 (start place))
 
     module _ (name : is_name n ≡ true) (met : room ≡ true) where
-      pub bad_seconds : (fault : Fault) (behind : ℕ) → behind ≡ offset ws 1 → Column 3600 s place behind (Err fault) → Reads legend ws place (Err fault)
-      bad_seconds fault behind at h = ((Number, offset ws 1), (λ i. answered (name i) (met i) (h.0 i) light turn (is_calls c) all), h.1 ∙ ap (fault_at place Number) at)
+      pub bad_seconds : (fault : Fault) (at : Place) → At place at (offset ws 1) → Column 3600 s at (Err fault) → Refuses legend ws place fault
+      bad_seconds fault at is h = ((Number, offset ws 1), (λ i. answered (name i) (met i) (h.0 i) light turn (is_calls c) all), h.1 ∙ moved place at Number _ is)
 
       module _ (seconds_ok : seconds ≡ true) where
-        pub bad_light : (fault : Fault) (behind : ℕ) → behind ≡ offset ws 2 → Column 65535 l place behind (Err fault) → Reads legend ws place (Err fault)
-        bad_light fault behind at h = ((Number, offset ws 2), (λ i. answered (name i) (met i) (seconds_ok i) (h.0 i) turn (is_calls c) all), h.1 ∙ ap (fault_at place Number) at)
+        pub bad_light : (fault : Fault) (at : Place) → At place at (offset ws 2) → Column 65535 l at (Err fault) → Refuses legend ws place fault
+        bad_light fault at is h = ((Number, offset ws 2), (λ i. answered (name i) (met i) (seconds_ok i) (h.0 i) turn (is_calls c) all), h.1 ∙ moved place at Number _ is)
 
         module _ (light_ok : light ≡ true) where
-          pub bad_turn : (fault : Fault) (behind : ℕ) → behind ≡ offset ws 3 → Column 23 t place behind (Err fault) → Reads legend ws place (Err fault)
-          bad_turn fault behind at h =
-              ((Number, offset ws 3), (λ i. answered (name i) (met i) (seconds_ok i) (light_ok i) (h.0 i) (is_calls c) all), h.1 ∙ ap (fault_at place Number) at)
+          pub bad_turn : (fault : Fault) (at : Place) → At place at (offset ws 3) → Column 23 t at (Err fault) → Refuses legend ws place fault
+          bad_turn fault at is h =
+              ((Number, offset ws 3), (λ i. answered (name i) (met i) (seconds_ok i) (light_ok i) (h.0 i) (is_calls c) all), h.1 ∙ moved place at Number _ is)
 
           module _ (turn_ok : turn ≡ true) where
-            pub bad_calls : (fault : Fault) (behind : ℕ) (after : Legend) → behind ≡ offset ws 4 → Called (routine_met legend ws) c place behind (Err fault) after → Reads legend ws place (Err fault)
-            bad_calls fault behind after at (inl h) =
-                ((BadCalls, offset ws 4), (λ i. answered (name i) (met i) (seconds_ok i) (light_ok i) (turn_ok i) (h.0 i) all), h.1 ∙ ap (fault_at place BadCalls) at)
-            bad_calls fault behind after at (inr h) =
-                ((Names, offset ws 4), (λ i. answered (name i) (met i) (seconds_ok i) (light_ok i) (turn_ok i) (h.0 i) (h.1 i)), h.2 ∙ ap (fault_at place Names) at)
+            pub bad_calls : (fault : Fault) (at : Place) (after : Legend) → At place at (offset ws 4) → Called (routine_met legend ws) c at (Err fault) after → Refuses legend ws place fault
+            bad_calls fault at after is (inl h) =
+                ((BadCalls, offset ws 4), (λ i. answered (name i) (met i) (seconds_ok i) (light_ok i) (turn_ok i) (h.0 i) all), h.1 ∙ moved place at BadCalls _ is)
+            bad_calls fault at after is (inr h) =
+                ((Names, offset ws 4), (λ i. answered (name i) (met i) (seconds_ok i) (light_ok i) (turn_ok i) (h.0 i) (h.1 i)), h.2 ∙ moved place at Names _ is)
 
 pub length-four : (ns : List ℕ) → length (four ns) ≡ 4
 length-four ns = simp (length-take, length-append) (omega arith)
 
--- the calls of a branch: how many, and their four places
-pub counted_length : (c : Calls) → c.count ≡ length (counted c)
-counted_length c =
-    let long : length c.places ≡ 4 = ap length c.padded ∙ length-four (counted c) in
-    sym (length-take-le c.count c.places (omega (arith, c.fits)))
+pub four_filled : (ns : List ℕ) → length ns ≤ 4 → ns ++ drop (length ns) (0 ∷ 0 ∷ 0 ∷ 0 ∷ []) ≡ four ns
+four_filled [] few = refl
+four_filled (a ∷ []) few = refl
+four_filled (a ∷ b ∷ []) few = refl
+four_filled (a ∷ b ∷ c ∷ []) few = refl
+four_filled (a ∷ b ∷ c ∷ d ∷ []) few = refl
+four_filled (a ∷ b ∷ c ∷ d ∷ e ∷ ns) few = absurd (omega arith)
 
-length-numbers : (legend : Legend) (ws : List (List ℕ)) → length (numbers_of legend ws) ≡ length ws
-length-numbers legend [] = refl
-length-numbers legend (w ∷ ws) = ap suc (length-numbers (met legend w) ws)
+-- a fault that is handed on
+pub handed_on : (legend : Legend) (ws ws' : List (List ℕ)) (place : Place) (r : Result Branch Fault) (fault : Fault) (after : Legend) → ws ≡ ws' → IsErrAnd r (λ x. x ≡ fault) → Refuses legend ws' place fault → Reads legend ws place r after
+handed_on legend vs vs' place r fault after same handed h =
+    let p = err_from_is_err_and r handed in
+    subst₂ (λ v q. Reads legend v place q after) (sym same) (sym (p.1 ∙ ap Err p.2)) h
 
-module _ (legend : Legend) (n s l t c : List ℕ) (k : Calls) (numbered : counted k ≡ numbers_of (met legend n) (called c)) where
+-- the branch of a line, from what its words are read as
+module _ (legend : Legend) (n s l t c : List ℕ) (calls : List ℕ) (numbered : calls ≡ numbers_of (met legend n) (called c)) where
   pub branch_is :
-      (routine seconds light turn : ℕ) →
+      (routine count : ℕ) (places : List ℕ) (seconds light turn : ℕ) →
       routine ≡ number_of legend n →
+      count ≡ length calls →
+      places ≡ four calls →
       seconds ≡ value s →
       light ≡ value l →
       turn ≡ value t →
-      ◌≡◌ {A = Branch} (record { routine = routine; count = k.count; calls = k.places; seconds = seconds; light = light; turn = turn }) (line_branch legend (n ∷ s ∷ l ∷ t ∷ c ∷ []))
-  branch_is _ _ _ _ er es el et =
-      let count = counted_length k ∙ ap length numbered ∙ length-numbers (met legend n) (called c) in
-      let places = k.padded ∙ ap four numbered in
-      λ i. record { routine = er i; count = count i; calls = places i; seconds = es i; light = el i; turn = et i }
-
--- a fault that is handed on
-pub handed_on : (legend : Legend) (ws ws' : List (List ℕ)) (place : Place) (r : Result (Branch × Known) Fault) (x fault : Fault) → ws ≡ ws' → r ≡ Err x → x ≡ fault → Reads legend ws' place (Err fault) → Reads legend ws place r
-handed_on legend vs vs' place r x fault same was is h = subst₂ (λ v q. Reads legend v place q) (sym same) (sym (was ∙ ap Err is)) h
+      ◌≡◌ {A = Branch} (record { routine = routine; count = count; calls = places; seconds = seconds; light = light; turn = turn }) (line_branch legend (n ∷ s ∷ l ∷ t ∷ c ∷ []))
+  branch_is _ _ _ _ _ _ er ec ep es el et =
+      let few = ec ∙ ap length numbered ∙ length-numbers (met legend n) (called c) in
+      let four_calls = ep ∙ ap four numbered in
+      λ i. record { routine = er i; count = few i; calls = four_calls i; seconds = es i; light = el i; turn = et i }

@@ -1,19 +1,14 @@
 -- The words of the file format: pieces between separators, names and numbers. A text is the list
 -- of its bytes.
 use Rattle.std.specs.Prelude.{ℕ, ◌+◌, ◌-◌, ◌*◌, Bool, true, false, cond, not, ◌&&◌, ◌||◌, List, [], ◌∷◌, length, ◌==◌, nat_le}
+use Rattle.std.specs.List.{list_all, slice_split}
 use Rattle.std.specs.Str.{bytes_eq}
-
--- a byte in front of the first piece
-abbrev pub onto : ℕ → List (List ℕ) → List (List ℕ)
-onto b [] = (b ∷ []) ∷ []
-onto b (p ∷ ps) = (b ∷ p) ∷ ps
 
 -- The pieces of a text between one separator and the next: one more than there are separators,
 -- and any may be empty. Lines are the pieces between bytes 10, words between spaces, the names of
 -- calls between plus signs.
 abbrev pub pieces : ℕ → List ℕ → List (List ℕ)
-pieces sep [] = [] ∷ []
-pieces sep (b ∷ bs) = cond (b == sep) ([] ∷ pieces sep bs) (onto b (pieces sep bs))
+pieces sep text = slice_split (λ b. b == sep) text
 
 -- 10 ends a line; a space, a plus sign, a minus sign
 abbrev pub line_end : ℕ
@@ -36,18 +31,13 @@ letter b = nat_le 65 b && nat_le b 90
 abbrev pub digit : ℕ → Bool
 digit b = nat_le 48 b && nat_le b 57
 
--- every byte passes a test
-abbrev pub every : (ℕ → Bool) → List ℕ → Bool
-every test [] = true
-every test (b ∷ bs) = test b && every test bs
-
 -- a letter or a digit
 abbrev pub name_byte : ℕ → Bool
 name_byte b = letter b || digit b
 
 -- A name of a routine is a letter and up to 11 more bytes, each a letter or a digit.
 abbrev pub is_tail : List ℕ → Bool
-is_tail bs = nat_le (length bs) 11 && every name_byte bs
+is_tail bs = nat_le (length bs) 11 && list_all name_byte bs
 
 abbrev pub is_name : List ℕ → Bool
 is_name [] = false
@@ -69,20 +59,15 @@ well_led (b ∷ c ∷ bs) = not (b == 48)
 
 -- A number is decimal, without leading zeros, 0 itself apart.
 abbrev pub is_number : List ℕ → Bool
-is_number w = well_led w && every digit w
+is_number w = well_led w && list_all digit w
 
 -- a number that is at most `most`
 abbrev pub in_range : ℕ → List ℕ → Bool
 in_range most w = is_number w && nat_le (value w) most
 
--- each piece is a name
-abbrev pub all_names : List (List ℕ) → Bool
-all_names [] = true
-all_names (w ∷ ws) = is_name w && all_names ws
-
 -- at most so many names, joined by plus signs
 abbrev pub are_names : ℕ → List (List ℕ) → Bool
-are_names most ws = nat_le (length ws) most && all_names ws
+are_names most ws = nat_le (length ws) most && list_all is_name ws
 
 -- the names of a calls word: none for a lone minus sign, else its pieces between plus signs
 abbrev pub called : List ℕ → List (List ℕ)

@@ -1,15 +1,15 @@
--- What a name and a table of names hold.
-use Rattle.std.specs.Prelude.{◌≡◌, ℕ, ◌<◌, ◌≤◌, List, map, length, take, Some, None, Option}
+-- What a table of names holds.
+use Rattle.std.specs.Prelude.{◌≡◌, ℕ, ◌<◌, ◌≤◌, List, ◌++◌, map, length, Some, None, Option}
 use Rattle.script.specs.Legend.{Legend, number_of, met}
-use Rattle.reader.specs.declared.names.Name.{Name}
 use Rattle.reader.specs.declared.names.Names.{Names}
-
-abbrev pub name_bytes : Name → List ℕ
-name_bytes n = take n.len n.bytes
 
 -- the names met so far, by number
 abbrev pub known : Names → Legend
-known t = map name_bytes (take t.count t.slots)
+known t = map (λ name. name.now) t.met.items
+
+-- names met later come behind those met before
+abbrev pub Grows : Legend → Legend → Type 0
+Grows before after = (more : Legend) × (after ≡ before ++ more)
 
 -- The number of a word, which is met now; none where it would be the thirty-third name, and the
 -- legend then stays.

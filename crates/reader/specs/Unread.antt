@@ -14,7 +14,7 @@ feed_behind None feed = feed
 feed_behind (Some fault) feed = failed fault
 
 abbrev pub text_left : TextSource → Feed
-text_left s = feed_behind s.fault (lines_feed (known s.names) s.line s.byte (pieces line_end s.rest.now))
+text_left s = feed_behind s.fault (lines_feed (known s.names) s.place.line s.place.byte (pieces line_end s.rest.now))
 
 abbrev pub legend_left : TextSource → Legend
 legend_left s = lines_legend (known s.names) (pieces line_end s.rest.now)

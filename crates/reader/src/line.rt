@@ -1,6 +1,6 @@
 // The parts of one line of a script file.
-ghost use Rattle.std.specs.Prelude.{◌≡◌, ◌≤◌, length, take};
-ghost use Rattle.reader.specs.Text.{four};
+
+use arrayvec::ArrayVec;
 
 // The five words of a line.
 #[derive(Clone, Copy)]
@@ -12,14 +12,8 @@ pub(crate) struct Row<'a> {
     pub calls: &'a [u8],
 }
 
-// The calls of a branch by number: the first `count` places, the others holding 0.
-#[derive(Clone, Copy)]
-pub(crate) struct Calls {
-    pub count: usize,
-    pub places: [u8; 4],
-    ghost fits: { count ≤ 4 },
-    ghost padded: { places ≡ four (take count places) },
-}
+// The calls of a branch, by number.
+pub(crate) type Calls = ArrayVec<u8, 4>;
 
 mod read;
 

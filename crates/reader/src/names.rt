@@ -1,21 +1,14 @@
 // The names of routines, numbered from 0 as first met.
-ghost use Rattle.std.specs.Prelude.{◌≡◌, ◌≤◌, length};
+ghost use Rattle.std.specs.Prelude.{◌≤◌};
+ghost use Rattle.arrayvec.specs.ArrayVec.{array_vec_len};
 
-// The bytes of one name.
-#[derive(Clone, Copy)]
-pub(crate) struct Name {
-    bytes: [u8; 12],
-    len: usize,
-    ghost fits: { len ≤ length bytes },
-}
+use arrayvec::ArrayVec;
 
-// The names met so far: the first `count` slots, by number.
-#[derive(Clone, Copy)]
-pub(crate) struct Names {
-    slots: [Name; 32],
-    count: usize,
-    ghost room: { length slots ≡ 32 },
-    ghost fits: { count ≤ 32 },
+// The names met so far, by number. Each is a slice of the text.
+#[derive(Drop)]
+pub(crate) struct Names<'a> {
+    met: ArrayVec<&'a [u8], 32>,
+    ghost few: { array_vec_len met ≤ 32 },
 }
 
 mod table;

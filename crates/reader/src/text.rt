@@ -3,18 +3,18 @@ ghost use Rattle.std.specs.Prelude.{◌≡◌, ◌+◌, ◌≤◌, length};
 
 use crate::names::Names;
 use script::fault::Fault;
+use script::place::Place;
 
 #[derive(Drop)]
 pub struct TextSource<'a> {
-    // What has not been read yet, with the number and the first byte of its first line.
+    // What has not been read yet, with the place of its first line.
     rest: &'a [u8],
-    line: usize,
-    byte: usize,
-    names: Names,
+    place: Place,
+    names: Names<'a>,
     // What is wrong with the file as a whole.
     fault: Option<Fault>,
-    ghost few: { line + length rest.now ≤ 20000 },
-    ghost inside: { byte + length rest.now ≤ 20000 },
+    ghost few: { place.line + length rest.now ≤ 20000 },
+    ghost inside: { place.byte + length rest.now ≤ 20000 },
 }
 
 mod read;

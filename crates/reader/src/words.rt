@@ -1,66 +1,44 @@
 // The words of a script file: how a text is cut, what a name and a number are.
-ghost use Rattle.std.specs.Prelude.{◌≡◌, ℕ, ◌+◌, ◌<◌, ◌≤◌, true, false, ◌&&◌, [], ◌∷◌, length, MatchOption, ◌≢◌, nat_le, slice_index};
-ghost use Rattle.reader.specs.Format.{pieces, letter, digit, name_byte, every, is_tail, is_name, in_range, value, are_names, is_calls};
+ghost use Rattle.std.specs.Prelude.{◌≡◌, ◌+◌, true, false, ◌&&◌, [], ◌∷◌, length, MatchOption, ◌==◌, nat_le};
+ghost use Rattle.std.specs.List.{list_all, position};
+ghost use Rattle.reader.specs.Format.{pieces, digit, name_byte, is_tail, is_name, in_range, value, are_names, is_calls};
 
-pub const LINE_END: u8 = 10;
+pub const LINE_END: u8 = b'\n';
 
-pub const SPACE: u8 = 32;
+pub const SPACE: u8 = b' ';
 
-pub const PLUS: u8 = 43;
+pub const PLUS: u8 = b'+';
 
-// The place of the first `sep`, or the length where there is none.
-fn find(text: &[u8], sep: u8) -> usize
-    ensures within { result ≤ length text.now }
-    ensures before { (k : ℕ) → k < result → slice_index text.now k ≢ sep }
-    ensures found { result < length text.now → slice_index text.now result ≡ sep }
+// A calls word that names nothing.
+pub const NO_CALLS: &[u8] = b"-";
+
+// The place of the first `sep`.
+fn find(text: &[u8], sep: u8) -> Option<usize>
+    ensures { result ≡ position (λ b. b == sep) text.now }
 {
-    for (i, b) in text.iter().enumerate() {
-        if *b == sep {
-            return i;
-        }
-    }
-    text.len()
+    text.iter().position(|b| *b == sep)
 }
 
 // The first piece, and what is behind its separator; nothing where the text is one piece.
 pub(crate) fn cut(text: &[u8], sep: u8) -> Option<(&[u8], &[u8])>
-    ensures { MatchOption result (pieces sep text.now ≡ text.now ∷ []) (λ p. (pieces sep text.now ≡ p.0.now ∷ pieces sep p.1.now) × (length p.0.now + 1 + length p.1.now ≡ length text.now)) }
+    ensures { MatchOption result (pieces sep text.now ≡ text.now ∷ [])
+        (λ p. (pieces sep text.now ≡ p.0.now ∷ pieces sep p.1.now)
+        × (length p.0.now + 1 + length p.1.now ≡ length text.now)) }
 {
-    let end = find(text, sep);
-    if end == text.len() {
-        return None;
-    }
-    let (front, back) = text.split_at(end);
-    Some((front, &back[1..]))
-}
-
-fn is_letter(b: u8) -> bool
-    ensures { result ≡ letter b }
-{
-    65 <= b && b <= 90
-}
-
-fn is_digit(b: u8) -> bool
-    ensures { result ≡ digit b }
-{
-    48 <= b && b <= 57
+    let end = find(text, sep)?;
+    Some((&text[..end], &text[end + 1..]))
 }
 
 fn is_name_byte(b: u8) -> bool
     ensures { result ≡ name_byte b }
 {
-    is_letter(b) || is_digit(b)
+    b.is_ascii_uppercase() || b.is_ascii_digit()
 }
 
 fn all_name_bytes(bytes: &[u8]) -> bool
-    ensures { result ≡ every name_byte bytes.now }
+    ensures { result ≡ list_all name_byte bytes.now }
 {
-    for b in bytes {
-        if !is_name_byte(*b) {
-            return false;
-        }
-    }
-    true
+    bytes.iter().all(|b| is_name_byte(*b))
 }
 
 // Whether a letter and these bytes make a name.
@@ -76,22 +54,24 @@ pub(crate) fn name_ok(word: &[u8]) -> bool
 {
     match word {
         [] => false,
-        [first, rest @ ..] => is_letter(*first) && tail_ok(rest),
+        [first, rest @ ..] => first.is_ascii_uppercase() && tail_ok(rest),
     }
 }
 
 // The number that digits write, where it is at most `most`. However many digits there are, the
 // value stays below ten times the bound and ten.
 fn digits(word: &[u8], most: u16) -> Option<u16>
-    ensures { MatchOption result ((every digit word.now && nat_le (value word.now) most) ≡ false) (λ n. ((every digit word.now && nat_le (value word.now) most) ≡ true) × (n ≡ value word.now)) }
+    ensures { MatchOption result ((list_all digit word.now && nat_le (value word.now) most) ≡ false)
+        (λ n. ((list_all digit word.now && nat_le (value word.now) most) ≡ true)
+        × (n ≡ value word.now)) }
 {
-    let mut value: u32 = 0;
+    let mut value = 0;
     for b in word {
-        if !is_digit(*b) {
+        if !b.is_ascii_digit() {
             return None;
         }
-        value = value * 10 + (*b - 48) as u32;
-        if value > most as u32 {
+        value = value * 10 + u32::from(*b - b'0');
+        if value > u32::from(most) {
             return None;
         }
     }
@@ -100,38 +80,31 @@ fn digits(word: &[u8], most: u16) -> Option<u16>
 
 // The number that a word writes, where it is well formed and at most `most`.
 pub(crate) fn number(word: &[u8], most: u16) -> Option<u16>
-    ensures { MatchOption result (in_range most word.now ≡ false) (λ n. (in_range most word.now ≡ true) × (n ≡ value word.now)) }
+    ensures { MatchOption result (in_range most word.now ≡ false)
+        (λ n. (in_range most word.now ≡ true) × (n ≡ value word.now)) }
 {
     match word {
         [] => None,
-        [48, _, ..] => None,
+        [b'0', _, ..] => None,
         _ => digits(word, most),
     }
 }
 
-// Whether `first` and `rest` are one to `most` names joined by plus signs.
-fn names_ok(first: u8, rest: &[u8], most: usize) -> bool
-    ensures { result ≡ are_names most (pieces 43 (first ∷ rest.now)) }
+fn count_calls(word: &[u8]) -> usize
+    ensures { result ≡ length (pieces PLUS word.now) }
 {
-    if most == 0 || !is_letter(first) {
-        return false;
-    }
-    match cut(rest, PLUS) {
-        None => tail_ok(rest),
-        Some((tail, behind)) => match behind {
-            [] => false,
-            [next, more @ ..] => tail_ok(tail) && names_ok(*next, more, most - 1),
-        },
-    }
+    word.split(|b| *b == PLUS).count()
+}
+
+fn all_names(word: &[u8]) -> bool
+    ensures { result ≡ list_all is_name (pieces PLUS word.now) }
+{
+    word.split(|b| *b == PLUS).all(name_ok)
 }
 
 // Whether a word is a lone minus sign, or one to four names joined by plus signs.
 pub(crate) fn calls_ok(word: &[u8]) -> bool
     ensures { result ≡ is_calls word.now }
 {
-    match word {
-        [b'-'] => true,
-        [first, rest @ ..] => names_ok(*first, rest, 4),
-        [] => false,
-    }
+    word == NO_CALLS || count_calls(word) <= 4 && all_names(word)
 }

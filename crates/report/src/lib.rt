@@ -1,8 +1,9 @@
 // From the bytes of a script file to the bytes that are printed for it.
 #![tactic(auto)]
 
-ghost use Rattle.std.specs.Prelude.{◌≡◌, ◌^◌, ◌<◌, length, IfOk, OnOk};
+ghost use Rattle.std.specs.Prelude.{◌≡◌, ◌^◌, ◌<◌, length, OnOk};
 ghost use Rattle.reader.specs.Text.{ended};
+ghost use Rattle.report.specs.declared.Unprinted.TheVariants.{Memory};
 ghost use Rattle.report.specs.Reported.{Counted, Reported};
 
 use reader::TextSource;
@@ -10,11 +11,21 @@ use script::fault::Fault;
 use script::source::Source;
 use std::alloc::{AllocError, Global};
 
-// What is printed: a line on the script, or the line of its fault.
+// Why a text has no line of its own.
 #[derive(Drop)]
-pub enum Report {
-    Accepted(String),
+pub enum Unprinted {
+    // The text cannot be read. The line of its fault is printed instead.
     Refused(String),
+    // There is no memory for a line.
+    Memory(AllocError),
+}
+
+impl From<AllocError> for Unprinted {
+    ghost from_gives = { λ error x. x ≡ Memory error };
+
+    fn from(error: AllocError) -> Unprinted {
+        Unprinted::Memory(error)
+    }
 }
 
 // Uses a source up, and counts its branches.
@@ -31,21 +42,17 @@ fn count<S: Source>(source: &mut S) -> Result<usize, Fault>
     Ok(branches)
 }
 
-// The line for a text. Want of memory is the one error.
-pub fn printed(heap: Global, text: &[u8]) -> Result<Report, AllocError>
-    ensures { IfOk result (λ x. Reported text.now x) }
+// The line for a text.
+pub fn printed(heap: Global, text: &[u8]) -> Result<String, Unprinted>
+    ensures { Reported text.now result }
 {
     let mut source = TextSource::new(text);
     match count(&mut source) {
         Ok(branches) => {
             let routines = source.names();
-            let line = format!(in heap; "script {routines} routines {branches} branches\n")?;
-            Ok(Report::Accepted(line))
+            Ok(format!(in heap; "script {routines} routines {branches} branches\n")?)
         }
-        Err(fault) => {
-            let line = format!(in heap; "{fault}\n")?;
-            Ok(Report::Refused(line))
-        }
+        Err(fault) => Err(Unprinted::Refused(format!(in heap; "{fault}\n")?)),
     }
 }
 

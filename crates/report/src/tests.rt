@@ -7,9 +7,9 @@ const FIRST_LINE: &[u8] = b"routine seconds light turn calls\n";
 
 // The line that is printed for a whole file.
 fn line_of(heap: Global, text: &[u8]) -> Result<String, AllocError> {
-    match printed(heap, text)? {
-        Report::Accepted(line) => Ok(line),
-        Report::Refused(line) => Ok(line),
+    match printed(heap, text) {
+        Ok(line) | Err(Unprinted::Refused(line)) => Ok(line),
+        Err(Unprinted::Memory(error)) => Err(error),
     }
 }
 

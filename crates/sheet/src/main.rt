@@ -2,7 +2,8 @@
 // is refused ends the process with status 1 behind its line.
 #![tactic(auto)]
 
-use report::{Report, printed};
+use report::{Unprinted, printed};
+use std::io;
 use std::io::Read;
 use std::process::ExitCode;
 
@@ -10,22 +11,19 @@ use std::process::ExitCode;
 // read, whatever comes.
 const MOST_READ: u64 = 16385;
 
-fn run(rt: &HostRuntime) -> anyhow::Result<Report> {
-    let heap = rt.alloc();
-    let mut text = Vec::new(heap);
+fn read(rt: &HostRuntime) -> io::Result<Vec<u8>> {
+    let mut text = Vec::new(rt.alloc());
     rt.stdin().take(MOST_READ).read_to_end(&mut text)?;
-    Ok(printed(heap, &text)?)
+    Ok(text)
 }
 
 fn main(rt: HostRuntime) -> anyhow::Result<ExitCode> {
-    match run(&rt)? {
-        Report::Accepted(line) => {
-            print!(rt; "{line}")?;
-            Ok(ExitCode::SUCCESS)
-        }
-        Report::Refused(line) => {
-            print!(rt; "{line}")?;
-            Ok(ExitCode::FAILURE)
-        }
-    }
+    let text = read(&rt)?;
+    let (line, status) = match printed(rt.alloc(), &text) {
+        Ok(line) => (line, ExitCode::SUCCESS),
+        Err(Unprinted::Refused(line)) => (line, ExitCode::FAILURE),
+        Err(Unprinted::Memory(error)) => return Err(error.into()),
+    };
+    print!(rt; "{line}")?;
+    Ok(status)
 }

@@ -1,14 +1,14 @@
 // Reading a line: its words, its numbers, its names.
-ghost use Rattle.std.specs.Prelude.{◌≡◌, ◌+◌, ◌-◌, ◌^◌, ◌<◌, ◌≤◌, true, false, [], ◌∷◌, ◌++◌, length, MatchOption, ◌==◌};
+ghost use Rattle.std.specs.Prelude.{◌≡◌, ◌+◌, ◌^◌, ◌<◌, ◌≤◌, true, false, length, MatchOption, OnErr, ◌==◌};
 ghost use Rattle.reader.specs.Format.{pieces, are_names, called, is_calls};
-ghost use Rattle.reader.specs.Known.{known};
-ghost use Rattle.reader.specs.Row.{row_words, counted, Numbers, fault_at, Column, Routine, Called, Reads};
-ghost use Rattle.reader.specs.Text.{offset};
+ghost use Rattle.reader.specs.Known.{known, Grows};
+ghost use Rattle.reader.specs.Row.{HasWords, FiveWords, Numbers, Column, Routine, Called, Reads};
+ghost use Rattle.reader.specs.Text.{four, reader_fault};
 
 use super::{Calls, Row};
 use crate::names::Names;
 use crate::refusal::Refusal;
-use crate::words::{PLUS, SPACE, calls_ok, cut, name_ok, number};
+use crate::words::{NO_CALLS, PLUS, SPACE, calls_ok, cut, name_ok, number};
 use script::branch::Branch;
 use script::fault::{Cause, Fault};
 use script::place::Place;
@@ -16,158 +16,156 @@ use script::place::Place;
 impl<'a> Row<'a> {
     // The words of a line, where there are five.
     fn of(line: &'a [u8]) -> Option<Row<'a>>
-        ensures { MatchOption result ((length (pieces 32 line.now) == 5) ≡ false) (λ w. (pieces 32 line.now ≡ row_words w) × (offset (row_words w) 4 + length w.calls.now ≡ length line.now)) }
+        ensures { MatchOption result ((length (pieces SPACE line.now) == 5) ≡ false)
+            (λ row. HasWords line.now row) }
     {
         let (name, rest) = cut(line, SPACE)?;
         let (seconds, rest) = cut(rest, SPACE)?;
         let (light, rest) = cut(rest, SPACE)?;
         let (turn, calls) = cut(rest, SPACE)?;
-        match cut(calls, SPACE) {
-            Some(_) => None,
-            None => Some(Row {
-                name,
-                seconds,
-                light,
-                turn,
-                calls,
-            }),
-        }
+        let None = cut(calls, SPACE) else {
+            return None;
+        };
+        Some(Row {
+            name,
+            seconds,
+            light,
+            turn,
+            calls,
+        })
     }
 }
 
-impl Calls {
-    fn none() -> Calls
-        ensures count { result.count ≡ 0 }
-        ensures counted { counted result ≡ [] }
-    {
-        Calls {
-            count: 0,
-            places: [0; 4],
-        }
-    }
-
-    // One call more.
-    fn with(self, call: u8) -> Calls
-        requires { self.count < 4 }
-        ensures count { result.count ≡ self.count + 1 }
-        ensures counted { counted result ≡ counted self ++ call ∷ [] }
-    {
-        let mut places = self.places;
-        places[self.count] = call;
-        Calls {
-            count: self.count + 1,
-            places,
-        }
-    }
-}
-
-// Numbers the names of a calls word from the left, behind the calls that are counted already;
-// none where there would be more than 32 names.
-fn number_names(names: &mut Names, calls: Calls, word: &[u8]) -> Option<Calls>
-    requires { are_names (4 - calls.count) (pieces 43 word.now) ≡ true }
-    ensures { Numbers (known names.old) (pieces 43 word.now) (counted calls) result (known names.new) }
+// Numbers the names of a calls word from the left; none where there would be more than 32 names.
+// Kept: that names grow is a clause of each function that meets them; no type speaks of two moments.
+fn number_names<'a>(names: &mut Names<'a>, word: &'a [u8]) -> Option<Calls>
+    requires { are_names 4 (pieces PLUS word.now) ≡ true }
+    ensures numbered { Numbers (known names.old) (pieces PLUS word.now) result (known names.new) }
+    ensures grows { Grows (known names.old) (known names.new) }
 {
-    match cut(word, PLUS) {
-        None => {
-            let call = names.number(word)?;
-            Some(calls.with(call))
-        }
-        Some((name, rest)) => {
-            let call = names.number(name)?;
-            number_names(names, calls.with(call), rest)
-        }
+    let mut calls = Calls::new();
+    for name in word.split(|b| *b == PLUS) {
+        calls.push(names.number(name)?);
     }
+    Some(calls)
 }
 
 // Numbers the calls of a well-formed calls word.
-fn number_calls(names: &mut Names, word: &[u8]) -> Option<Calls>
+fn number_calls<'a>(names: &mut Names<'a>, word: &'a [u8]) -> Option<Calls>
     requires { is_calls word.now ≡ true }
-    ensures { Numbers (known names.old) (called word.now) [] result (known names.new) }
+    ensures numbered { Numbers (known names.old) (called word.now) result (known names.new) }
+    ensures grows { Grows (known names.old) (known names.new) }
 {
-    match word {
-        [b'-'] => Some(Calls::none()),
-        _ => number_names(names, Calls::none(), word),
+    if word == NO_CALLS {
+        return Some(Calls::new());
     }
+    number_names(names, word)
 }
 
-// The fault of a word that begins so far behind a place.
-pub(crate) fn fault_at(place: Place, refusal: Refusal, behind: usize) -> Fault
-    requires { place.byte + behind < 2 ^ 64 }
-    ensures { result ≡ fault_at place refusal behind }
+// A fault of the reader at a place.
+pub(crate) fn fault_at(place: Place, refusal: Refusal) -> Fault
+    ensures { result ≡ reader_fault refusal place.line place.byte }
 {
     Fault {
         cause: Cause::Reader(refusal),
-        place: Place {
-            line: place.line,
-            byte: place.byte + behind,
-        },
+        place,
     }
 }
 
-fn read_number(word: &[u8], most: u16, place: Place, behind: usize) -> Result<u16, Fault>
-    requires { place.byte + behind < 2 ^ 64 }
-    ensures { Column most word.now place behind result }
+// The place of the next word of a line, one byte behind this word.
+fn next_place(place: Place, word: &[u8]) -> Place
+    requires { place.byte + length word.now + 1 < 2 ^ 64 }
+    ensures line { result.line ≡ place.line }
+    ensures byte { result.byte ≡ place.byte + length word.now + 1 }
 {
-    match number(word, most) {
-        Some(n) => Ok(n),
-        None => Err(fault_at(place, Refusal::Number, behind)),
+    Place {
+        line: place.line,
+        byte: place.byte + word.len() + 1,
     }
 }
 
-fn read_routine(names: &mut Names, word: &[u8], place: Place) -> Result<u8, Fault>
-    ensures { Routine (known names.old) word.now place result (known names.new) }
+fn read_row<'a>(line: &'a [u8], at: Place) -> Result<Row<'a>, Fault>
+    ensures { FiveWords line.now at result }
+{
+    Row::of(line).ok_or(fault_at(at, Refusal::Words))
+}
+
+fn read_number(word: &[u8], most: u16, at: Place) -> Result<u16, Fault>
+    ensures { Column most word.now at result }
+{
+    number(word, most).ok_or(fault_at(at, Refusal::Number))
+}
+
+fn read_routine<'a>(names: &mut Names<'a>, word: &'a [u8], at: Place) -> Result<u8, Fault>
+    ensures routine { Routine (known names.old) word.now at result (known names.new) }
+    ensures grows { Grows (known names.old) (known names.new) }
 {
     if !name_ok(word) {
-        return Err(fault_at(place, Refusal::Name, 0));
+        return Err(fault_at(at, Refusal::Name));
     }
-    match names.number(word) {
-        Some(n) => Ok(n),
-        None => Err(fault_at(place, Refusal::Names, 0)),
-    }
+    names.number(word).ok_or(fault_at(at, Refusal::Names))
 }
 
-fn read_calls(names: &mut Names, word: &[u8], place: Place, behind: usize) -> Result<Calls, Fault>
-    requires { place.byte + behind < 2 ^ 64 }
-    ensures { Called (known names.old) word.now place behind result (known names.new) }
+fn read_calls<'a>(names: &mut Names<'a>, word: &'a [u8], at: Place) -> Result<Calls, Fault>
+    ensures called { Called (known names.old) word.now at result (known names.new) }
+    ensures grows { Grows (known names.old) (known names.new) }
 {
     if !calls_ok(word) {
-        return Err(fault_at(place, Refusal::Calls, behind));
+        return Err(fault_at(at, Refusal::Calls));
     }
-    match number_calls(names, word) {
-        Some(calls) => Ok(calls),
-        None => Err(fault_at(place, Refusal::Names, behind)),
-    }
+    number_calls(names, word).ok_or(fault_at(at, Refusal::Names))
 }
 
-// The branch of a line, with the names met by then.
-pub(crate) fn read_line(
-    mut names: Names,
-    line: &[u8],
-    place: Place,
-) -> Result<(Branch, Names), Fault>
-    requires { place.byte + length line.now < 2 ^ 64 }
-    ensures { Reads (known names) (pieces 32 line.now) place result }
+// The calls in the four places of a branch.
+fn four_places(calls: &[u8]) -> [u8; 4]
+    requires { length calls.now ≤ 4 }
+    ensures { result ≡ four calls.now }
 {
-    let Some(row) = Row::of(line) else {
-        return Err(fault_at(place, Refusal::Words, 0));
-    };
-    let routine = read_routine(&mut names, row.name, place)?;
-    let seconds_at = row.name.len() + 1;
-    let seconds = read_number(row.seconds, 3600, place, seconds_at)?;
-    let light_at = seconds_at + row.seconds.len() + 1;
-    let light = read_number(row.light, 65535, place, light_at)?;
-    let turn_at = light_at + row.light.len() + 1;
-    let turn = read_number(row.turn, 23, place, turn_at)?;
-    let calls_at = turn_at + row.turn.len() + 1;
-    let calls = read_calls(&mut names, row.calls, place, calls_at)?;
-    let places = calls.places;
-    let branch = Branch {
+    let mut places = [0; 4];
+    places[..calls.len()].copy_from_slice(calls);
+    places
+}
+
+// The branch of a line, with its names met. Where the line is refused, some of them are met too.
+fn read_branch<'a>(names: &mut Names<'a>, line: &'a [u8], place: Place) -> Result<Branch, Fault>
+    requires { place.byte + length line.now < 2 ^ 64 }
+    ensures read { Reads (known names.old) (pieces SPACE line.now) place result (known names.new) }
+    ensures grows { Grows (known names.old) (known names.new) }
+{
+    let row = read_row(line, place)?;
+    let routine = read_routine(names, row.name, place)?;
+    let seconds_at = next_place(place, row.name);
+    let seconds = read_number(row.seconds, 3600, seconds_at)?;
+    let light_at = next_place(seconds_at, row.seconds);
+    let light = read_number(row.light, 65535, light_at)?;
+    let turn_at = next_place(light_at, row.light);
+    let turn = read_number(row.turn, 23, turn_at)?;
+    let calls_at = next_place(turn_at, row.turn);
+    let calls = read_calls(names, row.calls, calls_at)?;
+    Ok(Branch {
         routine,
-        count: calls.count as u8,
-        calls: places,
+        count: calls.len() as u8,
+        calls: four_places(&calls),
         seconds,
         light,
         turn: turn as u8,
-    };
-    Ok((branch, names))
+    })
+}
+
+// The branch of a line, with its names met. A line that is refused leaves the names as they were.
+pub(crate) fn read_line<'a>(
+    names: &mut Names<'a>,
+    line: &'a [u8],
+    place: Place,
+) -> Result<Branch, Fault>
+    requires { place.byte + length line.now < 2 ^ 64 }
+    ensures read { Reads (known names.old) (pieces SPACE line.now) place result (known names.new) }
+    ensures kept { OnErr result (known names.new ≡ known names.old) }
+{
+    let met = names.count();
+    let read = read_branch(names, line, place);
+    if read.is_err() {
+        names.truncate(met);
+    }
+    read
 }

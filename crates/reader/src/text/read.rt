@@ -1,9 +1,10 @@
 // Reading a script file.
-ghost use Rattle.std.specs.Prelude.{◌≡◌, ◌+◌, ◌<◌, ◌≤◌, [], ◌∷◌, length, MatchOption, nat_lt, slice_index_or};
+ghost use Rattle.std.specs.Prelude.{◌≡◌, ◌+◌, ◌<◌, ◌≤◌, [], ◌∷◌, length, MatchOption, slice_index_or};
 ghost use Rattle.script.specs.Feed.{Gives};
 ghost use Rattle.reader.specs.declared.text.TextSource.{TextSource as Reading};
 ghost use Rattle.reader.specs.Known.{known};
-ghost use Rattle.reader.specs.Text.{failed, reader_fault, text_feed, text_legend};
+ghost use Rattle.reader.specs.Format.{pieces};
+ghost use Rattle.reader.specs.Text.{behind_first, failed, reader_fault, text_feed, text_legend};
 ghost use Rattle.reader.specs.Unread.{text_left, legend_left, AtEnd};
 ghost use Rattle.reader.specs.Writing.{ReadBack};
 
@@ -13,7 +14,7 @@ use crate::names::Names;
 use crate::refusal::Refusal;
 use crate::words::{LINE_END, cut};
 use script::branch::Placed;
-use script::fault::{Cause, Fault};
+use script::fault::Fault;
 use script::place::Place;
 use script::source::Source;
 
@@ -22,10 +23,14 @@ const MOST_BYTES: usize = 16384;
 
 const FIRST_LINE: &[u8] = b"routine seconds light turn calls";
 
-fn too_long(text: &[u8]) -> bool
-    ensures { result ≡ nat_lt 16384 (length text.now) }
+// What is behind the first line, where it is the one of every file, with its end.
+fn behind_first_line(text: &[u8]) -> Option<&[u8]>
+    ensures { MatchOption result (behind_first (pieces LINE_END text.now) ≡ None)
+        (λ rest. (behind_first (pieces LINE_END text.now) ≡ Some (pieces LINE_END rest.now))
+        × (length rest.now ≤ length text.now)) }
 {
-    text.len() > MOST_BYTES
+    let (first, rest) = cut(text, LINE_END)?;
+    (first == FIRST_LINE).then_some(rest)
 }
 
 // The fault of a file that is refused as a whole, which has no text to read.
@@ -34,15 +39,12 @@ fn refused<'a>(refusal: Refusal, line: usize) -> TextSource<'a>
     ensures feed { text_left result ≡ failed (reader_fault refusal line 0) }
     ensures legend { legend_left result ≡ [] }
 {
+    let place = Place { line, byte: 0 };
     TextSource {
         rest: &[],
-        line,
-        byte: 0,
+        place,
         names: Names::none(),
-        fault: Some(Fault {
-            cause: Cause::Reader(refusal),
-            place: Place { line, byte: 0 },
-        }),
+        fault: Some(fault_at(place, refusal)),
     }
 }
 
@@ -53,19 +55,18 @@ impl<'a> TextSource<'a> {
         ensures at_end { (s : Reading) → AtEnd s }
         ensures read_back { ReadBack text.now (text_left result) }
     {
-        if too_long(text) {
+        if text.len() > MOST_BYTES {
             return refused(Refusal::Size, 0);
         }
-        let Some((first, rest)) = cut(text, LINE_END) else {
+        let Some(rest) = behind_first_line(text) else {
             return refused(Refusal::FirstLine, 1);
         };
-        if first != FIRST_LINE {
-            return refused(Refusal::FirstLine, 1);
-        }
         TextSource {
             rest,
-            line: 2,
-            byte: first.len() + 1,
+            place: Place {
+                line: 2,
+                byte: FIRST_LINE.len() + 1,
+            },
             names: Names::none(),
             fault: None,
         }
@@ -80,7 +81,9 @@ impl<'a> TextSource<'a> {
 
     // The name of the routine with this number, of those met so far.
     pub fn name(&self, number: usize) -> Option<&[u8]>
-        ensures { MatchOption result (length (known self.now.names) ≤ number) (λ n. (number < length (known self.now.names)) × (n.now ≡ slice_index_or (known self.now.names) number [])) }
+        ensures { MatchOption result (length (known self.now.names) ≤ number)
+            (λ n. (number < length (known self.now.names))
+            × (n.now ≡ slice_index_or (known self.now.names) number [])) }
     {
         self.names.name(number)
     }
@@ -95,21 +98,19 @@ impl<'a> Source for TextSource<'a> {
         if let Some(fault) = self.fault {
             return Err(fault);
         }
-        if self.rest.len() == 0 {
+        if self.rest.is_empty() {
             return Ok(None);
         }
-        let place = Place {
-            line: self.line,
-            byte: self.byte,
-        };
+        let place = self.place;
         let Some((text, rest)) = cut(self.rest, LINE_END) else {
-            return Err(fault_at(place, Refusal::Words, 0));
+            return Err(fault_at(place, Refusal::Words));
         };
-        let (branch, names) = read_line(self.names, text, place)?;
+        let branch = read_line(&mut self.names, text, place)?;
         self.rest = rest;
-        self.line += 1;
-        self.byte = self.byte + text.len() + 1;
-        self.names = names;
+        self.place = Place {
+            line: place.line + 1,
+            byte: place.byte + text.len() + 1,
+        };
         Ok(Some(Placed { branch, place }))
     }
 }

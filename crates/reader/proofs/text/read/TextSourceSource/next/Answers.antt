@@ -1,36 +1,30 @@
-use Rattle.std.proofs.Common.{Err, refl, ap, ◌∙◌}
-use Rattle.std.proofs.lemmas.Result.{err_from_is_err_and}
+use Rattle.std.proofs.Common.{rules, refl, ap}
+use Rattle.reader.specs.Format.{pieces, line_end}
 use Rattle.reader.specs.Known.{known}
+use Rattle.reader.specs.Text.{lines_legend}
 use Rattle.reader.proofs.Lines.{next_at_end, next_refused, next_read, next_legend}
 use Rattle.reader.proofs.text.read.TextSourceSource.next.Goals as goal
 
-pub returns-then-self-eq0 : goal.returns-then-self-eq0
-returns-then-self-eq0 c =
-    let s = c.args.self.now in
-    record {
-      gives = next_at_end s.fault c.in_default.is (known s.names) s.line s.byte s.rest.now c.if-self-eq0.true;
-      legend = refl;
-    }
+pub returns-then-is_empty : goal.returns-then-is_empty
+returns-then-is_empty c = record { gives = next_at_end c.args.self.now c.in_default.is (search rules); legend = refl }
 
 pub returns-in_err-branch : goal.returns-in_err-branch
 returns-in_err-branch c =
     let s = c.args.self.now in
-    let p = err_from_is_err_and c.from_residual.result c.from_residual.ensures.1 in
+    let cut = c.in-Some-cut in
     let h = c.in_err-branch.ensures in
-    let cut = c.in-Some-cut.ensures in
     record {
-      gives = next_refused s.fault c.in_default.is (known s.names) s.line s.byte s.rest.now c.in-Some-cut.text.now c.in-Some-cut.rest.now cut.0 c.from_residual.result h.0 h.1 (p.1 ∙ ap Err (p.2 ∙ h.2));
-      legend = refl;
+      gives = next_refused s c.in_default.is cut.text.now cut.rest.now cut.ensures.0 (known c.read_line.new.names) c.from_residual.result _ h.kept h.read c.from_residual.ensures.1;
+      legend = ap (λ m. lines_legend m (pieces line_end s.rest.now)) h.kept;
     }
 
 pub returns : goal.returns
 returns c =
     let s = c.args.self.now in
-    let h = c.in_ok-branch.ensures in
-    let cut = c.in-Some-cut.ensures in
-    let branch = c.in_ok-branch.branch in
-    let after = known c.in_ok-branch.names in
+    let cut = c.in-Some-cut in
+    let after = known c.read_line.new.names in
+    let h = c.in_ok-branch.ensures.read in
     record {
-      gives = next_read s.fault c.in_default.is (known s.names) s.line s.byte s.rest.now c.in-Some-cut.text.now c.in-Some-cut.rest.now cut.0 branch after h.0 h.1 h.2;
-      legend = next_legend s.fault c.in_default.is (known s.names) s.line s.byte s.rest.now c.in-Some-cut.text.now c.in-Some-cut.rest.now cut.0 branch after h.0 h.1 h.2;
+      gives = next_read s c.in_default.is cut.text.now cut.rest.now cut.ensures.0 after c.in_ok-branch.branch h;
+      legend = next_legend s c.in_default.is cut.text.now cut.rest.now cut.ensures.0 after c.in_ok-branch.branch h;
     }
