@@ -2,6 +2,5 @@ pub mod Above
 pub mod Asking
 pub mod Feeding
 pub mod Settling
-pub mod Shifting
 pub mod Stepping
 pub mod Written

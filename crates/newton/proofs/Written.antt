@@ -1,6 +1,6 @@
 -- A slice written from the front, and one that is copied from it.
-use Rattle.std.proofs.Common.{◌≡◌, ℕ, zero, suc, ◌<◌, ◌≤◌, List, [], ◌∷◌, ◌++◌, length, drop, refl, ap, ◌∙◌, arith, length-append, length-drop}
-use Rattle.std.proofs.lemmas.List.{drop_at}
+use Rattle.std.proofs.Common.{◌≡◌, ℕ, zero, suc, ◌<◌, ◌≤◌, List, [], ◌∷◌, ◌++◌, length, take, drop, sym, refl, ap, ◌∙◌, add-one, arith, length-append, length-drop}
+use Rattle.std.proofs.lemmas.List.{drop_at, take_more}
 use Rattle.semiring.specs.Algebra.{Algebra}
 use Rattle.linear.specs.System.{entry_at}
 use Rattle.equations.specs.Held.{table, written}
@@ -9,6 +9,12 @@ use Rattle.equations.proofs.Slices.{entry_written, length-table}
 table_same : {X : Type 0} (f g : ℕ → X) (n : ℕ) → ((i : ℕ) → i < n → f i ≡ g i) → table f n ≡ table g n
 table_same f g zero same = refl
 table_same f g (suc n) same = λ j. table_same f g n (λ i below. same i (omega arith)) j ++ same n (omega arith) j ∷ []
+
+-- what is read from the front is the table of the places there
+pub table_read : {K : Type 0} (k : Algebra K) (n : ℕ) (xs : List K) → n ≤ length xs → take n xs ≡ table (entry_at k xs) n
+table_read k zero xs room = refl
+table_read k (suc n) xs room =
+    ap (λ m. take m xs) (sym (add-one n)) ∙ take_more xs n k.zero (omega arith) ∙ ap (λ l. l ++ entry_at k xs n ∷ []) (table_read k n xs (omega arith))
 
 written_same : {X : Type 0} (f g : ℕ → X) (n : ℕ) (xs : List X) → ((i : ℕ) → i < n → f i ≡ g i) → written f n xs ≡ written g n xs
 written_same f g n xs same = ap (λ l. l ++ drop n xs) (table_same f g n same)

@@ -1,7 +1,7 @@
 -- What the calls of a draft promise: enter and strike. Each is said by cases of the answer, over
 -- the draft and both slices before and after.
-use Rattle.std.specs.Prelude.{◌≡◌, ℕ, suc, ◌+◌, ◌-◌, ◌<◌, ◌≤◌, max, List, [], ◌∷◌, ◌++◌, length, take, drop, Ok, Err, Result, slice_set}
-use Rattle.std.specs.List.{AllByRecursion, between}
+use Rattle.std.specs.Prelude.{◌≡◌, ℕ, ◌+◌, ◌-◌, ◌<◌, ◌≤◌, max, List, [], ◌∷◌, ◌++◌, length, take, drop, Ok, Err, Result, slice_set}
+use Rattle.std.specs.List.{AllByRecursion, between, fold}
 use Rattle.script.specs.declared.branch.Branch.{Branch}
 use Rattle.script.specs.declared.refusal.sheet.SheetRefusal.{SheetRefusal as Refusal}
 use Rattle.script.specs.declared.refusal.sheet.SheetRefusal.TheVariants.{Calls, Routines, Range, Room, Slices, Place}
@@ -14,8 +14,7 @@ named b = b.routine ∷ take b.count b.calls
 
 -- one more than the largest number of a list, or n where that is larger
 abbrev pub above : ℕ → List ℕ → ℕ
-above n [] = n
-above n (m ∷ ms) = above (max n (suc m)) ms
+above n ms = fold (λ top m. max top (m + 1)) n ms
 
 -- the same draft, in its numbers
 pub record Same (d d' : Draft) : Type 0 where

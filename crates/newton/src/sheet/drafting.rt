@@ -18,12 +18,7 @@ fn all_below(numbers: &[u8], top: u8) -> bool
     ensures yes { result ≡ true → AllByRecursion (λ m. m < top) numbers.now }
     ensures no { result ≡ false → AllByRecursion (λ m. m < top) numbers.now → ⊥ }
 {
-    for number in numbers {
-        if *number >= top {
-            return false;
-        }
-    }
-    true
+    numbers.iter().all(|number| *number < top)
 }
 
 // Whether a branch names only routines below a bound.
@@ -38,11 +33,9 @@ pub(super) fn names_below(branch: &Branch, top: u8) -> bool
 fn raised(n: usize, numbers: &[u8]) -> usize
     ensures { result ≡ above n numbers.now }
 {
-    let mut top = n;
-    for number in numbers {
-        top = top.max(*number as usize + 1);
-    }
-    top
+    numbers
+        .iter()
+        .fold(n, |top, number| top.max(*number as usize + 1))
 }
 
 // Moves what stands behind a place, up to the last one, down one place.
@@ -50,9 +43,7 @@ fn move_down<T: Copy>(items: &mut [T], at: usize, last: usize)
     requires { (at ≤ last) × (last < length items.old) }
     ensures { items.new ≡ shifted at last items.old }
 {
-    for i in at..last {
-        items[i] = items[i + 1];
-    }
+    items.copy_within(at + 1..last + 1, at);
 }
 
 impl Draft {

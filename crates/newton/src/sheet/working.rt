@@ -2,7 +2,7 @@
 ghost use Rattle.std.specs.Prelude.{◌≡◌, ℕ, ◌*◌, ◌<◌, ◌≤◌, true, false, length};
 ghost use Rattle.equations.specs.Held.{no_branch, written, rules_of};
 ghost use Rattle.newton.specs.Questions.{Asked};
-ghost use Rattle.newton.specs.Working.{AllSound, slice_questions, due_questions, Started, Climbed, Closed, NewtonStep, Rounded, RoundsOn, SettlesBy};
+ghost use Rattle.newton.specs.Working.{Sound, AllSound, slice_questions, due_questions, Started, Climbed, Closed, NewtonStep, Rounded, RoundsOn, SettlesBy};
 ghost use Rattle.equations.specs.Equations.{Solves};
 ghost use Rattle.linear.specs.Solved.{Fits, Accepted, one_more};
 ghost use Rattle.linear.specs.System.{entry_at};
@@ -15,18 +15,21 @@ use linear::solver::Solver;
 use script::branch::Branch;
 use semiring::Semiring;
 
-// Whether every held branch has at most 4 calls, and names routines below n only.
+// Whether a branch has at most 4 calls, and names routines below n only.
+fn is_sound(n: u8, branch: &Branch) -> bool
+    ensures yes { result ≡ true → Sound n branch.now }
+    ensures no { result ≡ false → Sound n branch.now → ⊥ }
+{
+    branch.count <= 4 && names_below(branch, n)
+}
+
+// Whether every held branch is sound.
 fn all_sound(n: u8, held: usize, branches: &[Branch]) -> bool
     requires { held ≤ length branches.now }
     ensures yes { result ≡ true → AllSound n held branches.now }
     ensures no { result ≡ false → AllSound n held branches.now → ⊥ }
 {
-    for i in 0..held {
-        if branches[i].count > 4 || !names_below(&branches[i], n) {
-            return false;
-        }
-    }
-    true
+    branches[..held].iter().all(|branch| is_sound(n, branch))
 }
 
 // Fills the first places with zero.
@@ -34,8 +37,8 @@ fn clear<K: Semiring>(places: usize, items: &mut [K])
     requires { places ≤ length items.old }
     ensures { items.new ≡ written (λ r. K.algebra.zero) places items.old }
 {
-    for i in 0..places {
-        items[i] = K::zero();
+    for item in &mut items[..places] {
+        *item = K::zero();
     }
 }
 
@@ -113,9 +116,7 @@ fn copy<K: Semiring>(places: usize, from: &[K], to: &mut [K])
     requires { (places ≤ length from.now) × (places ≤ length to.old) }
     ensures { to.new ≡ written (entry_at K.algebra from.now) places to.old }
 {
-    for i in 0..places {
-        to[i] = from[i];
-    }
+    to[..places].copy_from_slice(&from[..places]);
 }
 
 // Has a solver solve a system that it takes.
