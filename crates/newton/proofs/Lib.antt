@@ -1,6 +1,7 @@
 pub mod Above
 pub mod Asking
 pub mod Feeding
+pub mod Ruled
 pub mod Settling
 pub mod Stepping
 pub mod Written

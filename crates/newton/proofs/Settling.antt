@@ -1,37 +1,70 @@
 -- What rounds leave of the places that they do not name.
-use Rattle.std.proofs.Common.{◌≡◌, ℕ, zero, suc, ◌*◌, List, ◌++◌, drop, refl, ap, ◌∙◌}
+use Rattle.std.proofs.Common.{◌≡◌, ℕ, zero, suc, ◌*◌, ◌++◌, length, drop, ap, ◌∙◌, subst, arith}
 use Rattle.semiring.specs.Algebra.{Algebra}
+use Rattle.linear.specs.Solved.{one_more}
 use Rattle.equations.specs.Held.{table, written}
-use Rattle.newton.specs.Working.{SlicesOf, Made, RoundsOn, LeavesOff}
-use Rattle.newton.proofs.Written.{written_tail}
+use Rattle.newton.specs.Slices.{SlicesOf}
+use Rattle.newton.specs.declared.sheet.Size.{Size}
+use Rattle.newton.specs.declared.sheet.Work.{Work}
+use Rattle.newton.specs.Working.{Room, SolvedBy, NewtonStep, Counts, Made, RoundsOn, LeavesOff}
+use Rattle.newton.proofs.Written.{written_tail, written_size}
 
-module _ {K : Type 0} (k : Algebra K) (n held : ℕ) where
-  column_kept : (j : ℕ) (s s' : SlicesOf K) → Made k n held j s s' → drop n s'.column ≡ drop n s.column
+module _ {K : Type 0} (k : Algebra K) (size : Size) where
+  abbrev n : ℕ
+  n = size.n
+
+  column_kept : (j : ℕ) (s s' : SlicesOf K) → Made k size j s s' → drop n s'.column ≡ drop n s.column
   column_kept zero s s' made = ap (λ x. drop n x.column) made
   column_kept (suc j) s s' made =
       written_tail (λ r. k.zero) n made.0.column s'.column made.3.cleared.column ∙ column_kept j s made.0 made.1
 
-  grid_kept : (j : ℕ) (s s' : SlicesOf K) → Made k n held j s s' → drop (n * n) s'.grid ≡ drop (n * n) s.grid
+  grid_kept : (j : ℕ) (s s' : SlicesOf K) → Made k size j s s' → drop (n * n) s'.grid ≡ drop (n * n) s.grid
   grid_kept zero s s' made = ap (λ x. drop (n * n) x.grid) made
   grid_kept (suc j) s s' made =
       written_tail (λ r. k.zero) (n * n) made.0.grid s'.grid made.3.cleared.grid ∙ grid_kept j s made.0 made.1
 
+  -- a step keeps the room that the slices have
+  pub room_kept : (s s' : SlicesOf K) → Room size s → NewtonStep k size s s' → Room size s'
+  room_kept s s' room step = record {
+    branches = omega (arith, room.branches, ap length step.cleared.branches);
+    weights = omega (arith, room.weights, ap length step.cleared.weights);
+    values = omega (arith, room.values, step.places);
+    column = omega (arith, room.column, written_size (λ r. k.zero) n s.column s'.column room.column step.cleared.column);
+    grid = omega (arith, room.grid, written_size (λ r. k.zero) (n * n) s.grid s'.grid room.grid step.cleared.grid);
+  }
+
+  -- one round more
+  pub round_on :
+      (before first : ℕ) (s mid s' : SlicesOf K) (calls calls' : ℕ) (w w' : Work) →
+      w.progress.size ≡ size →
+      RoundsOn k size before s first w.progress.rounds mid calls →
+      (SolvedBy k size mid → ⊥) →
+      Counts k w mid calls w' s' calls' →
+      RoundsOn k size before s first w'.progress.rounds s' calls'
+  round_on before first s mid s' calls calls' w w' same on due counts = record {
+    more = suc on.more;
+    made = (mid, on.made, due, subst (λ z. NewtonStep k z mid s') same counts.step);
+    count = omega (arith, on.count, counts.rounds);
+    calls_are = counts.calls_are ∙ ap one_more on.calls_are;
+  }
+
   -- behind the rounds, column and grid are cleared once more
   pub left_off :
-      (before calls after calls' : ℕ) (s last : SlicesOf K) (column grid : List K) →
-      last.branches ≡ s.branches →
-      last.weights ≡ s.weights →
-      RoundsOn k n held before s calls after last calls' →
-      column ≡ written (λ r. k.zero) n last.column →
-      grid ≡ written (λ r. k.zero) (n * n) last.grid →
-      LeavesOff k n held before s calls after (record { branches = last.branches; weights = last.weights; values = last.values; column = column; grid = grid }) calls'
-  left_off before calls after calls' s last column grid same_branches same_weights on none none' = record {
+      (before calls after calls' : ℕ) (s last s' : SlicesOf K) →
+      s'.branches ≡ s.branches →
+      s'.weights ≡ s.weights →
+      RoundsOn k size before s calls after last calls' →
+      s'.values ≡ last.values →
+      s'.column ≡ written (λ r. k.zero) n last.column →
+      s'.grid ≡ written (λ r. k.zero) (n * n) last.grid →
+      LeavesOff k size before s calls after s' calls'
+  left_off before calls after calls' s last s' branches weights on values none none' = record {
     last = last;
     rounds_on = on;
-    values = refl;
+    values = values;
     cleared = record {
-      branches = same_branches;
-      weights = same_weights;
+      branches = branches;
+      weights = weights;
       column = none ∙ ap (λ l. table (λ r. k.zero) n ++ l) (column_kept on.more s last on.made);
       grid = none' ∙ ap (λ l. table (λ r. k.zero) (n * n) ++ l) (grid_kept on.more s last on.made);
     };

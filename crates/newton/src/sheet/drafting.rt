@@ -5,7 +5,7 @@ ghost use Rattle.std.specs.List.{AllByRecursion};
 ghost use Rattle.newton.specs.Questions.{Asked};
 ghost use Rattle.newton.specs.Drafting.{named, above, enter_questions, Entered, strike_questions, shifted, Struck};
 
-use super::Draft;
+use super::{Draft, Size};
 use crate::refusal::Refusal;
 use script::branch::{Branch, Placed};
 use script::fault::{Cause, Fault};
@@ -40,7 +40,8 @@ fn raised(n: usize, numbers: &[u8]) -> usize
 
 // Moves what stands behind a place, up to the last one, down one place.
 fn move_down<T: Copy>(items: &mut [T], at: usize, last: usize)
-    requires { (at ≤ last) × (last < length items.old) }
+    requires order { at ≤ last }
+    requires room { last < length items.old }
     ensures { items.new ≡ shifted at last items.old }
 {
     items.copy_within(at + 1..last + 1, at);
@@ -48,10 +49,11 @@ fn move_down<T: Copy>(items: &mut [T], at: usize, last: usize)
 
 impl Draft {
     pub fn new() -> Draft
-        ensures n { result.n ≡ 0 }
-        ensures held { result.held ≡ 0 }
+        ensures n { result.size.n ≡ 0 }
+        ensures held { result.size.held ≡ 0 }
     {
-        Draft { n: 0, held: 0 }
+        let size = Size { n: 0, held: 0 };
+        Draft { size }
     }
 
     // The questions of enter, in order.
@@ -72,7 +74,8 @@ impl Draft {
         if branch.seconds > 3600 || branch.turn > 23 {
             return Err(Refusal::Range);
         }
-        if self.held >= 200 || self.held >= branches.len() || self.held >= weights.len() {
+        let held = self.size.held;
+        if held >= 200 || held >= branches.len() || held >= weights.len() {
             return Err(Refusal::Room);
         }
         Ok(())
@@ -88,11 +91,13 @@ impl Draft {
         ensures { Entered W.Weighing.weight self.old branch.now branches.old weights.old self.new branches.new weights.new result }
     {
         self.may_enter(branch, branches, weights)?;
-        let held = self.held;
+        let Size { n, held, .. } = self.size;
         branches[held] = *branch;
         weights[held] = W::weigh(branch);
-        self.n = raised(raised(self.n, &[branch.routine]), branch.counted_calls());
-        self.held = held + 1;
+        self.size = Size {
+            n: raised(raised(n, &[branch.routine]), branch.counted_calls()),
+            held: held + 1,
+        };
         Ok(())
     }
 
@@ -105,10 +110,11 @@ impl Draft {
     ) -> Result<(), Refusal>
         ensures { Asked (strike_questions self.now place branches.now weights.now) result }
     {
-        if branches.len() < self.held || weights.len() < self.held {
+        let held = self.size.held;
+        if branches.len() < held || weights.len() < held {
             return Err(Refusal::Slices);
         }
-        if place >= self.held {
+        if place >= held {
             return Err(Refusal::Place);
         }
         Ok(())
@@ -124,10 +130,10 @@ impl Draft {
         ensures { Struck self.old place branches.old weights.old self.new branches.new weights.new result }
     {
         self.may_strike(place, branches, weights)?;
-        let last = self.held - 1;
+        let last = self.size.held - 1;
         move_down(branches, place, last);
         move_down(weights, place, last);
-        self.held = last;
+        self.size.held = last;
         Ok(())
     }
 

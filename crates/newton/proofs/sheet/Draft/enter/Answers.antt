@@ -7,8 +7,8 @@ pub invariant_of-self : goal.invariant_of-self
 invariant_of-self g c =
     let asked = c.in_ok-may_enter.ensures in
     let calls = subst (AllByRecursion (λ m. m < 32)) (sym c.counted_calls.ensures) asked.1.0.1 in
-    let first : c.raised.result ≤ 32 = omega (arith, c.raised.ensures, asked.1.0.0, c.args.self.now.routines) in
+    let first : c.raised.result ≤ 32 = omega (arith, c.raised.ensures, asked.1.0.0, c.args.self.now.size.routines) in
     record {
-      routines = subst (λ n. n ≤ 32) (sym c.raised-self.ensures) (above_within 32 c.raised.result c.counted_calls.result.now first calls);
+      routines = subst (λ n. n ≤ 32) (sym c.raised-2.ensures) (above_within 32 c.raised.result c.counted_calls.result.now first calls);
       branches = omega (arith, asked.1.1.1.0.0);
     }

@@ -4,4 +4,4 @@ use Rattle.newton.proofs.sheet.working.copy.Goals as goal
 
 pub returns : goal.returns
 returns g c =
-    ap (λ l. l ++ drop c.args.places c.args.to.now) (c.copy_from_slice.ensures.after ∙ table_read g.K.Semiring.algebra c.args.places c.args.from.now c.requires.0)
+    ap (λ l. l ++ drop c.args.places c.args.to.now) (c.copy_from_slice.ensures.after ∙ table_read g.K.Semiring.algebra c.args.places c.args.from.now c.requires.from)

@@ -1,6 +1,6 @@
 use Rattle.std.proofs.Common.{take, arith}
 use Rattle.equations.proofs.Slices.{written_more}
-use Rattle.newton.proofs.sheet.working.clear.Goals as goal
+use Rattle.newton.proofs.slices.clear.Goals as goal
 
 pub loop-item-preserved : goal.loop-item-preserved
 loop-item-preserved g c =
