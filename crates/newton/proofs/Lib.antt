@@ -1,5 +1,4 @@
 pub mod Above
-pub mod Asking
 pub mod Feeding
 pub mod Ruled
 pub mod Settling

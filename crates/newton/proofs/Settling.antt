@@ -1,12 +1,16 @@
 -- What rounds leave of the places that they do not name.
-use Rattle.std.proofs.Common.{◌≡◌, ℕ, zero, suc, ◌*◌, ◌++◌, length, drop, ap, ◌∙◌, subst, arith}
+use Rattle.std.proofs.Common.{◌≡◌, ℕ, zero, suc, ◌*◌, ◌++◌, length, drop, ap, ◌∙◌, subst, sym, arith, inr, Ok, Err, Result}
+use Rattle.std.specs.Prelude.{IsOk, IfOk, IfErr}
 use Rattle.semiring.specs.Algebra.{Algebra}
 use Rattle.linear.specs.Solved.{one_more}
 use Rattle.equations.specs.Held.{table, written}
 use Rattle.newton.specs.Slices.{SlicesOf}
 use Rattle.newton.specs.declared.sheet.Size.{Size}
 use Rattle.newton.specs.declared.sheet.Work.{Work}
-use Rattle.newton.specs.Working.{Room, SolvedBy, NewtonStep, Counts, Made, RoundsOn, LeavesOff}
+use Rattle.newton.specs.declared.sheet.Settled.{Settled}
+use Rattle.newton.specs.declared.refusal.Refusal.{Refusal}
+use Rattle.newton.specs.Questions.{Passed}
+use Rattle.newton.specs.Working.{Room, slice_questions, RoundsEnd, Stops, SettlesBy, SolvedBy, NewtonStep, Counts, Made, RoundsOn, LeavesOff}
 use Rattle.newton.proofs.Written.{written_tail, written_size}
 
 module _ {K : Type 0} (k : Algebra K) (size : Size) where
@@ -69,3 +73,29 @@ module _ {K : Type 0} (k : Algebra K) (size : Size) where
       grid = none' ∙ ap (λ l. table (λ r. k.zero) (n * n) ++ l) (grid_kept on.more s last on.made);
     };
   }
+
+-- settle, from what the rounds leave and how they end
+pub settles :
+    {K : Type 0} (k : Algebra K) (w w' : Work) (s s' : SlicesOf K) (calls calls' : ℕ) (end : Result (Unit {0}) Refusal) (r : Result Settled (Work × Refusal)) →
+    Passed (slice_questions k w.progress.size s) →
+    w'.progress.size ≡ w.progress.size →
+    LeavesOff k w.progress.size w.progress.rounds s calls w'.progress.rounds s' calls' →
+    RoundsEnd k w.progress.size w'.progress.rounds s' end →
+    IfOk r (λ f. (f.progress ≡ w'.progress) × IsOk end) →
+    IfErr r (λ e. (e.0 ≡ w') × (end ≡ Err e.1)) →
+    SettlesBy k w s calls s' calls' r
+settles k w w' s s' calls calls' (Ok done) (Ok f) asked same left solved ok err = record {
+  asked = asked;
+  size = ap (λ p. p.size) ok.0 ∙ same;
+  left = subst (λ p. LeavesOff k w.progress.size w.progress.rounds s calls p.rounds s' calls') (sym ok.0) left;
+  solved = solved;
+}
+settles k w w' s s' calls calls' (Ok done) (Err e) asked same left solved ok err = let never = err.1 in cc
+settles k w w' s s' calls calls' (Err why) (Ok f) asked same left ended ok err = let never = ok.1 in cc
+settles k w w' s s' calls calls' (Err why) (Err e) asked same left ended ok err =
+    let same_why = err.1 in
+    inr (
+      cc,
+      subst (λ v. Stops k w s calls v s' calls') (sym err.0)
+          (record { asked = asked; size = same; left = left; due = ended.1; all = ended.2 }),
+    )

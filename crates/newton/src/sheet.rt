@@ -1,7 +1,7 @@
 // The three states of a sheet. A sheet is three numbers: how many routines it has, how many
 // branches it holds, and how many rounds it has made. What it works on lies in slices that are
 // lent to each call.
-ghost use Rattle.std.specs.Prelude.{◌≤◌};
+ghost use Rattle.std.specs.Prelude.{◌≡◌, ◌≤◌};
 
 // How many routines a sheet has, and how many branches it holds.
 #[derive(Clone, Copy)]
@@ -18,6 +18,15 @@ struct Progress {
     size: Size,
     rounds: usize,
     ghost bound: { rounds ≤ size.n },
+}
+
+impl Progress {
+    fn new(size: Size) -> Progress
+        ensures size { result.size ≡ size }
+        ensures rounds { result.rounds ≡ 0 }
+    {
+        Progress { size, rounds: 0 }
+    }
 }
 
 // Branches are entered and struck here. There are none at new.

@@ -1,5 +1,6 @@
 // The slices that are lent to the calls of a sheet at work.
 ghost use Rattle.std.specs.Prelude.{◌≡◌, ◌*◌, ◌≤◌, length};
+ghost use Rattle.linear.specs.System.{entry_at};
 ghost use Rattle.equations.specs.Held.{rules_of, listed, written};
 ghost use Rattle.newton.specs.Slices.{SameLent};
 
@@ -35,13 +36,37 @@ impl<'a, K: Semiring> Script<'a, K> {
 }
 
 // Fills the first places with zero.
-pub(crate) fn clear<K: Semiring>(places: usize, items: &mut [K])
+fn clear<K: Semiring>(places: usize, items: &mut [K])
     requires { places ≤ length items.old }
     ensures { items.new ≡ written (λ r. K.algebra.zero) places items.old }
 {
     for item in &mut items[..places] {
         *item = K::zero();
     }
+}
+
+// Copies the first places.
+fn copy<K: Semiring>(places: usize, from: &[K], to: &mut [K])
+    requires from { places ≤ length from.now }
+    requires to { places ≤ length to.old }
+    ensures { to.new ≡ written (entry_at K.algebra from.now) places to.old }
+{
+    to[..places].copy_from_slice(&from[..places]);
+}
+
+// The values become what the column holds; then column and grid are cleared.
+pub(crate) fn take_over<K: Semiring>(n: usize, values: &mut [K], column: &mut [K], grid: &mut [K])
+    requires few { n ≤ 32 }
+    requires values { n ≤ length values.old }
+    requires column { n ≤ length column.old }
+    requires grid { n * n ≤ length grid.old }
+    ensures values { values.new ≡ written (entry_at K.algebra column.old) n values.old }
+    ensures column { column.new ≡ written (λ r. K.algebra.zero) n column.old }
+    ensures grid { grid.new ≡ written (λ i. K.algebra.zero) (n * n) grid.old }
+{
+    copy(n, column, values);
+    clear(n, column);
+    clear(n * n, grid);
 }
 
 impl<K: Semiring> Space<'_, '_, '_, K> {

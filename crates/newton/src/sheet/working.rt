@@ -1,16 +1,16 @@
 // The calls of a sheet at work.
-ghost use Rattle.std.specs.Prelude.{◌≡◌, ◌<◌, ◌≤◌, true, false, [], length};
+ghost use Rattle.std.specs.Prelude.{◌≡◌, ◌<◌, ◌≤◌, true, false, [], length, IsOk, IfOk, IfErr};
 ghost use Rattle.equations.specs.Held.{no_branch, written};
 ghost use Rattle.linear.specs.Solved.{Fits, Accepted, one_more};
 ghost use Rattle.linear.specs.System.{entry_at};
 ghost use Rattle.newton.specs.Questions.{Asked};
 ghost use Rattle.newton.specs.Slices.{beside, slices, SameLent};
-ghost use Rattle.newton.specs.Working.{Sound, AllSound, Room, slice_questions, due_questions, Started, Climbed, Closed, Lifts, NewtonStep, GoesOn, SolvedBy, Rounded, RoundsOn, RoundsEnd, SettlesBy};
+ghost use Rattle.newton.specs.Working.{Sound, AllSound, Room, slice_questions, due_questions, close_questions, Started, Climbed, Closed, Lifts, NewtonStep, GoesOn, SolvedBy, Rounded, RoundsOn, RoundsEnd, SettlesBy};
 
 use super::drafting::names_below;
 use super::{Draft, Progress, Settled, Size, Work};
 use crate::refusal::Refusal;
-use crate::slices::{Script, Space, clear};
+use crate::slices::{Script, Space, take_over};
 use linear::solver::Solver;
 use script::branch::Branch;
 use semiring::Semiring;
@@ -122,18 +122,10 @@ impl Draft {
         }
         script.rules(size.held).image(size.n, &[], space.values);
         space.clear(size.n);
-        let progress = Progress { size, rounds: 0 };
-        Ok(Work { progress })
+        Ok(Work {
+            progress: Progress::new(size),
+        })
     }
-}
-
-// Copies the first places.
-fn copy<K: Semiring>(places: usize, from: &[K], to: &mut [K])
-    requires from { places ≤ length from.now }
-    requires to { places ≤ length to.old }
-    ensures { to.new ≡ written (entry_at K.algebra from.now) places to.old }
-{
-    to[..places].copy_from_slice(&from[..places]);
 }
 
 // Has a solver solve a system that it takes.
@@ -164,9 +156,7 @@ fn lift<K: Semiring>(
 {
     let n = size.n;
     script.rules(size.held).image(n, values, column);
-    copy(n, column, values);
-    clear(n, column);
-    clear(n * n, grid);
+    take_over(n, values, column, grid);
 }
 
 // One Newton round.
@@ -189,9 +179,7 @@ fn step<K: Semiring, S: Solver>(
     rules.image(n, values, column);
     rules.slopes(n, values, grid);
     solve(solver, n, grid, column);
-    copy(n, column, values);
-    clear(n, column);
-    clear(n * n, grid);
+    take_over(n, values, column, grid);
 }
 
 impl Work {
@@ -286,6 +274,19 @@ impl Work {
         Ok(())
     }
 
+    // Settled, or handed back with what refuses that.
+    fn settled_if(self, end: Result<(), Refusal>) -> Result<Settled, (Work, Refusal)>
+        ensures ok { IfOk result (λ f. (f.progress ≡ self.progress) × IsOk end) }
+        ensures err { IfErr result (λ e. (e.0 ≡ self) × (end ≡ Err e.1)) }
+    {
+        match end {
+            Ok(()) => Ok(Settled {
+                progress: self.progress,
+            }),
+            Err(refusal) => Err((self, refusal)),
+        }
+    }
+
     // Makes rounds as long as the values do not solve the equations, then closes.
     pub fn settle<K: Semiring, S: Solver>(
         mut self,
@@ -305,12 +306,26 @@ impl Work {
         }
         let end = self.make_rounds(solver, script, space);
         space.clear(size.n);
-        match end {
-            Ok(()) => Ok(Settled {
-                progress: self.progress,
-            }),
-            Err(refusal) => Err((self, refusal)),
+        self.settled_if(end)
+    }
+
+    // The questions of close, in order.
+    fn may_close<K: Semiring>(
+        &self,
+        script: Script<'_, K>,
+        values: &[K],
+        column: &[K],
+        grid: &[K],
+    ) -> Result<(), Refusal>
+        ensures { Asked (close_questions K.algebra self.now
+            (beside script.entry values.now column.now grid.now)) result }
+    {
+        let size = self.progress.size;
+        ready(size, script, values, column, grid)?;
+        if !solved(size, script, values) {
+            return Err(Refusal::Unsolved);
         }
+        Ok(())
     }
 
     // Takes a sheet whose values solve the equations to settled.
@@ -324,16 +339,8 @@ impl Work {
         ensures { Closed K.algebra self
             (beside script.entry values.now column.now grid.now) result }
     {
-        let size = self.progress.size;
-        if let Err(refusal) = ready(size, script, values, column, grid) {
-            return Err((self, refusal));
-        }
-        if !solved(size, script, values) {
-            return Err((self, Refusal::Unsolved));
-        }
-        Ok(Settled {
-            progress: self.progress,
-        })
+        let asked = self.may_close(script, values, column, grid);
+        self.settled_if(asked)
     }
 
     // How many rounds have been made.

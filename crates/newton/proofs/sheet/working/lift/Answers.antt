@@ -16,11 +16,11 @@ returns g c =
     let f = image k (held_rules k c.args.size (beside c.args.script c.args.values.now column c.args.grid.now)) v in
     let filled = imaged k c.rules.ensures v n column c.image.new.column c.image.ensures in
     record {
-      values = c.copy.ensures ∙ copied k f n column c.image.new.column c.args.values.now filled;
+      values = c.take_over.ensures.values ∙ copied k f n column c.image.new.column c.args.values.now filled;
       cleared = record {
         branches = refl;
         weights = refl;
-        column = c.clear.ensures ∙ written_over (λ r. k.zero) f n column c.image.new.column filled;
-        grid = c.clear-2.ensures;
+        column = c.take_over.ensures.column ∙ written_over (λ r. k.zero) f n column c.image.new.column filled;
+        grid = c.take_over.ensures.grid;
       };
     }

@@ -1,6 +1,6 @@
 use Rattle.std.proofs.Common.{◌++◌, drop, ap, ◌∙◌}
 use Rattle.newton.proofs.Written.{table_read}
-use Rattle.newton.proofs.sheet.working.copy.Goals as goal
+use Rattle.newton.proofs.slices.copy.Goals as goal
 
 pub returns : goal.returns
 returns g c =
