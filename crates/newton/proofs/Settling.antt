@@ -8,7 +8,7 @@ use Rattle.newton.specs.Slices.{SlicesOf}
 use Rattle.newton.specs.declared.sheet.Size.{Size}
 use Rattle.newton.specs.declared.sheet.Work.{Work}
 use Rattle.newton.specs.declared.sheet.Settled.{Settled}
-use Rattle.newton.specs.declared.refusal.Refusal.{Refusal}
+use Rattle.script.specs.declared.refusal.sheet.SheetRefusal.{SheetRefusal as Refusal}
 use Rattle.newton.specs.Questions.{Passed}
 use Rattle.newton.specs.Working.{Room, slice_questions, RoundsEnd, Stops, SettlesBy, SolvedBy, NewtonStep, Counts, Made, RoundsOn, LeavesOff}
 use Rattle.newton.proofs.Written.{written_tail, written_size}
