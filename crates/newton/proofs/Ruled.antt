@@ -1,8 +1,8 @@
 -- What is said of the rules that were listed is said of those that are held, the same ones.
-use Rattle.std.proofs.Common.{◌≡◌, ℕ, ◌*◌, List, ap, ◌∙◌, subst, sym}
+use Rattle.std.proofs.Common.{◌≡◌, ℕ, ◌*◌, List, ap, ◌∙◌}
 use Rattle.semiring.specs.Algebra.{Algebra}
 use Rattle.equations.specs.Rule.{Rule}
-use Rattle.equations.specs.Equations.{image, slope, Solves}
+use Rattle.equations.specs.Equations.{image, slope}
 use Rattle.equations.specs.Held.{written, rows}
 
 module _ {K : Type 0} (k : Algebra K) {rules held : List (Rule K)} (same : rules ≡ held) (v : ℕ → K) (n : ℕ) where
@@ -11,9 +11,3 @@ module _ {K : Type 0} (k : Algebra K) {rules held : List (Rule K)} (same : rules
 
   pub sloped : (xs ys : List K) → ys ≡ written (rows n (slope k rules v)) (n * n) xs → ys ≡ written (rows n (slope k held v)) (n * n) xs
   sloped xs ys is = is ∙ ap (λ rs. written (rows n (slope k rs v)) (n * n) xs) same
-
-  pub solves_held : Solves k n rules v → Solves k n held v
-  solves_held = subst (λ rs. Solves k n rs v) same
-
-  pub solves_listed : Solves k n held v → Solves k n rules v
-  solves_listed = subst (λ rs. Solves k n rs v) (sym same)

@@ -10,7 +10,7 @@ use Rattle.newton.specs.declared.sheet.Work.{Work}
 use Rattle.newton.specs.declared.sheet.Settled.{Settled}
 use Rattle.script.specs.declared.refusal.sheet.SheetRefusal.{SheetRefusal as Refusal}
 use Rattle.newton.specs.Questions.{Passed}
-use Rattle.newton.specs.Working.{Room, slice_questions, RoundsEnd, Stops, SettlesBy, SolvedBy, NewtonStep, Counts, Made, RoundsOn, LeavesOff}
+use Rattle.newton.specs.Working.{HasRoom, slice_questions, RoundsEnd, Stops, SettlesBy, SolvedBy, NewtonStep, Counts, Made, RoundsOn, LeavesOff}
 use Rattle.newton.proofs.Written.{written_tail, written_size}
 
 module _ {K : Type 0} (k : Algebra K) (size : Size) where
@@ -28,7 +28,7 @@ module _ {K : Type 0} (k : Algebra K) (size : Size) where
       written_tail (λ r. k.zero) (n * n) made.0.grid s'.grid made.3.cleared.grid ∙ grid_kept j s made.0 made.1
 
   -- a step keeps the room that the slices have
-  pub room_kept : (s s' : SlicesOf K) → Room size s → NewtonStep k size s s' → Room size s'
+  pub room_kept : (s s' : SlicesOf K) → HasRoom size s → NewtonStep k size s s' → HasRoom size s'
   room_kept s s' room step = record {
     branches = omega (arith, room.branches, ap length step.cleared.branches);
     weights = omega (arith, room.weights, ap length step.cleared.weights);

@@ -28,7 +28,7 @@ abbrev pub AllSound : Size → List Branch → Type 0
 AllSound size bs = (i : ℕ) → i < size.held → Sound size.n (slice_index_or bs i no_branch)
 
 -- The slices have a place for each held branch, for each routine, and for each two routines.
-pub record Room {K : Type 0} (size : Size) (s : SlicesOf K) : Type 0 where
+pub record HasRoom {K : Type 0} (size : Size) (s : SlicesOf K) : Type 0 where
   pub branches : size.held ≤ length s.branches
   pub weights : size.held ≤ length s.weights
   pub values : size.n ≤ length s.values
@@ -45,7 +45,7 @@ module _ {K : Type 0} (k : Algebra K) where
 
   -- The questions of every call that works on the slices.
   abbrev pub slice_questions : Size → SlicesOf K → List Question
-  slice_questions size s = (Slices, Room size s) ∷ (Held, AllSound size s.branches) ∷ []
+  slice_questions size s = (Slices, HasRoom size s) ∷ (Held, AllSound size s.branches) ∷ []
 
   -- The first n places of the column and the first n × n of the grid hold zero; all others are as
   -- they were, and so are branches and weights.

@@ -21,6 +21,7 @@ struct Progress {
 }
 
 impl Progress {
+    // No round has been made.
     fn new(size: Size) -> Progress
         ensures size { result.size ≡ size }
         ensures rounds { result.rounds ≡ 0 }

@@ -15,7 +15,8 @@ pub struct Script<'a, K> {
     pub weights: &'a [K],
 }
 
-// The values of a sheet's routines, with a column and a grid to work in.
+// The values of a sheet's routines, with a column and a grid to work in. Each slice has a lifetime
+// of its own, so that one can be read while another is written.
 #[derive(Drop)]
 pub struct Space<'v, 'c, 'g, K> {
     pub values: &'v mut [K],

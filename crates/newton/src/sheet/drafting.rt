@@ -1,5 +1,5 @@
 // The calls of a draft.
-ghost use Rattle.std.specs.Prelude.{◌≡◌, ◌<◌, ◌≤◌, true, false, [], length, None, OnOk};
+ghost use Rattle.std.specs.Prelude.{◌≡◌, ◌<◌, ◌≤◌, ◌↔◌, [], length, None, OnOk, IsTrue};
 ghost use Rattle.newton.specs.Loading.{Taken, Loads};
 ghost use Rattle.std.specs.List.{AllByRecursion};
 ghost use Rattle.newton.specs.Questions.{Asked};
@@ -15,16 +15,14 @@ use semiring::Semiring;
 
 // Whether every number lies below a bound.
 fn all_below(numbers: &[u8], top: u8) -> bool
-    ensures yes { result ≡ true → AllByRecursion (λ m. m < top) numbers.now }
-    ensures no { result ≡ false → AllByRecursion (λ m. m < top) numbers.now → ⊥ }
+    ensures { IsTrue result ↔ AllByRecursion (λ m. m < top) numbers.now }
 {
     numbers.iter().all(|number| *number < top)
 }
 
 // Whether a branch names only routines below a bound.
 pub(super) fn names_below(branch: &Branch, top: u8) -> bool
-    ensures yes { result ≡ true → AllByRecursion (λ m. m < top) (named branch.now) }
-    ensures no { result ≡ false → AllByRecursion (λ m. m < top) (named branch.now) → ⊥ }
+    ensures { IsTrue result ↔ AllByRecursion (λ m. m < top) (named branch.now) }
 {
     branch.routine < top && all_below(branch.counted_calls(), top)
 }
@@ -88,7 +86,10 @@ impl Draft {
         branches: &mut [Branch],
         weights: &mut [W],
     ) -> Result<(), Refusal>
-        ensures { Entered W.Weighing.weight self.old branch.now branches.old weights.old self.new branches.new weights.new result }
+        ensures { Entered W.Weighing.weight
+            self.old branch.now branches.old weights.old
+            self.new branches.new weights.new
+            result }
     {
         self.may_enter(branch, branches, weights)?;
         let Size { n, held, .. } = self.size;
@@ -127,7 +128,10 @@ impl Draft {
         branches: &mut [Branch],
         weights: &mut [W],
     ) -> Result<(), Refusal>
-        ensures { Struck self.old place branches.old weights.old self.new branches.new weights.new result }
+        ensures { Struck
+            self.old place branches.old weights.old
+            self.new branches.new weights.new
+            result }
     {
         self.may_strike(place, branches, weights)?;
         let last = self.size.held - 1;
@@ -144,15 +148,16 @@ impl Draft {
         branches: &mut [Branch],
         weights: &mut [W],
     ) -> Result<(), Fault>
-        ensures { Taken W.Weighing.weight item.now self.old branches.old weights.old self.new branches.new weights.new result }
+        ensures { Taken W.Weighing.weight
+            item.now self.old branches.old weights.old
+            self.new branches.new weights.new
+            result }
     {
-        match self.enter(&item.branch, branches, weights) {
-            Ok(()) => Ok(()),
-            Err(refusal) => Err(Fault {
+        self.enter(&item.branch, branches, weights)
+            .map_err(|refusal| Fault {
                 cause: Cause::Sheet(refusal),
                 place: item.place,
-            }),
-        }
+            })
     }
 
     // Enters the branches of a source, one after the other.
@@ -162,8 +167,13 @@ impl Draft {
         branches: &mut [Branch],
         weights: &mut [W],
     ) -> Result<(), Fault>
-        ensures loads { Loads W.Weighing.weight (S.Source.feed source.old).items (S.Source.feed source.old).ending self.old branches.old weights.old self.new branches.new weights.new result }
-        ensures used { OnOk result (S.Source.feed source.new ≡ record { items = []; ending = None }) }
+        ensures loads { let feed = S.Source.feed source.old in
+            Loads W.Weighing.weight feed.items feed.ending
+            self.old branches.old weights.old
+            self.new branches.new weights.new
+            result }
+        ensures used { OnOk result
+            (S.Source.feed source.new ≡ record { items = []; ending = None }) }
         ensures legend { S.Source.legend source.new ≡ S.Source.legend source.old }
     {
         while let Some(item) = source.next()? {

@@ -1,11 +1,11 @@
 // The calls of a sheet at work.
-ghost use Rattle.std.specs.Prelude.{◌≡◌, ◌<◌, ◌≤◌, true, false, [], length, IsOk, IfOk, IfErr};
+ghost use Rattle.std.specs.Prelude.{◌≡◌, ◌<◌, ◌≤◌, ◌↔◌, [], length, IsTrue, IsOk, IfOk, IfErr};
 ghost use Rattle.equations.specs.Held.{no_branch, written};
 ghost use Rattle.linear.specs.Solved.{Fits, Accepted, one_more};
 ghost use Rattle.linear.specs.System.{entry_at};
 ghost use Rattle.newton.specs.Questions.{Asked};
 ghost use Rattle.newton.specs.Slices.{beside, slices, SameLent};
-ghost use Rattle.newton.specs.Working.{Sound, AllSound, Room, slice_questions, due_questions, close_questions, Started, Climbed, Closed, Lifts, NewtonStep, GoesOn, SolvedBy, Rounded, RoundsOn, RoundsEnd, SettlesBy};
+ghost use Rattle.newton.specs.Working.{Sound, AllSound, HasRoom, slice_questions, due_questions, close_questions, Started, Climbed, Closed, Lifts, NewtonStep, GoesOn, SolvedBy, Rounded, RoundsOn, RoundsEnd, SettlesBy};
 
 use super::drafting::names_below;
 use super::{Draft, Progress, Settled, Size, Work};
@@ -17,8 +17,7 @@ use semiring::Semiring;
 
 // Whether a branch has at most 4 calls, and names routines below n only.
 fn is_sound(n: u8, branch: &Branch) -> bool
-    ensures yes { result ≡ true → Sound n branch.now }
-    ensures no { result ≡ false → Sound n branch.now → ⊥ }
+    ensures { IsTrue result ↔ Sound n branch.now }
 {
     branch.count <= 4 && names_below(branch, n)
 }
@@ -26,8 +25,8 @@ fn is_sound(n: u8, branch: &Branch) -> bool
 // Whether every held branch is sound.
 fn all_sound(size: Size, branches: &[Branch]) -> bool
     requires { size.held ≤ length branches.now }
-    ensures yes { result ≡ true → AllSound size branches.now }
-    ensures no { result ≡ false → AllSound size branches.now → ⊥ }
+    ensures yes { IsTrue result → AllSound size branches.now }
+    ensures complete { AllSound size branches.now → IsTrue result }
 {
     let n = size.n as u8;
     branches[..size.held]
@@ -71,21 +70,19 @@ fn ready_in<K: Semiring>(
     ready(size, script, space.values, space.column, space.grid)
 }
 
-// Whether the values solve the equations of the held rules; column and grid have no part in that.
+// Whether the values solve the equations of the held rules. Column and grid have no part in that.
 fn solved<K: Semiring>(size: Size, script: Script<'_, K>, values: &[K]) -> bool
     requires branches { size.held ≤ length script.branches.now }
     requires weights { size.held ≤ length script.weights.now }
-    ensures yes { result ≡ true → SolvedBy K.algebra size (beside script.entry values.now [] []) }
-    ensures no { result ≡ false → SolvedBy K.algebra size (beside script.entry values.now [] []) → ⊥ }
+    ensures { IsTrue result ↔ SolvedBy K.algebra size (beside script.entry values.now [] []) }
 {
     script.rules(size.held).solves(size.n, values)
 }
 
 // The same of the values of a space.
 fn solved_in<K: Semiring>(size: Size, script: Script<'_, K>, space: &Space<'_, '_, '_, K>) -> bool
-    requires { Room size (slices script space.now) }
-    ensures yes { result ≡ true → SolvedBy K.algebra size (slices script.entry space.now) }
-    ensures no { result ≡ false → SolvedBy K.algebra size (slices script.entry space.now) → ⊥ }
+    requires { HasRoom size (slices script space.now) }
+    ensures { IsTrue result ↔ SolvedBy K.algebra size (slices script.entry space.now) }
 {
     solved(size, script, space.values)
 }
@@ -142,6 +139,8 @@ fn solve<K: Semiring, S: Solver>(solver: &mut S, n: usize, grid: &mut [K], colum
 }
 
 // Replaces the values by f of the values.
+// Kept: the slices of a space stand apart here and in step: what lies behind a `&mut` to a space is
+// not known to stay while one of its slices is read and another written (tried with the space).
 fn lift<K: Semiring>(
     size: Size,
     script: Script<'_, K>,
@@ -149,7 +148,7 @@ fn lift<K: Semiring>(
     column: &mut [K],
     grid: &mut [K],
 )
-    requires { Room size (beside script values.old column.old grid.old) }
+    requires { HasRoom size (beside script values.old column.old grid.old) }
     ensures { Lifts K.algebra size
         (beside script.entry values.old column.old grid.old)
         (beside script.entry values.new column.new grid.new) }
@@ -168,7 +167,7 @@ fn step<K: Semiring, S: Solver>(
     column: &mut [K],
     grid: &mut [K],
 )
-    requires { Room size (beside script values.old column.old grid.old) }
+    requires { HasRoom size (beside script values.old column.old grid.old) }
     ensures step { NewtonStep K.Semiring.algebra size
         (beside script.entry values.old column.old grid.old)
         (beside script.entry values.new column.new grid.new) }
@@ -190,7 +189,7 @@ impl Work {
         script: Script<'_, K>,
         space: &mut Space<'_, '_, '_, K>,
     ) -> Result<(), Refusal>
-        requires { Room self.old.progress.size (slices script space.old) }
+        requires { HasRoom self.old.progress.size (slices script space.old) }
         ensures goes { GoesOn K.Semiring.algebra
             self.old (slices script.entry space.old) (S.Solver.calls solver.old)
             self.new (slices script.entry space.new) (S.Solver.calls solver.new)
@@ -219,14 +218,14 @@ impl Work {
         script: Script<'_, K>,
         space: &mut Space<'_, '_, '_, K>,
     ) -> Result<(), Refusal>
-        requires { Room self.old.progress.size (slices script space.old) }
+        requires { HasRoom self.old.progress.size (slices script space.old) }
         ensures size { self.new.progress.size ≡ self.old.progress.size }
         ensures rounds { RoundsOn K.Semiring.algebra self.old.progress.size
             self.old.progress.rounds (slices script.entry space.old) (S.Solver.calls solver.old)
             self.new.progress.rounds (slices script.entry space.new) (S.Solver.calls solver.new) }
         ensures end { RoundsEnd K.Semiring.algebra self.old.progress.size
             self.new.progress.rounds (slices script.entry space.new) result }
-        ensures room { Room self.old.progress.size (slices script.entry space.new) }
+        ensures room { HasRoom self.old.progress.size (slices script.entry space.new) }
         ensures lent { SameLent space.old space.new }
     {
         let size = self.progress.size;
@@ -328,7 +327,8 @@ impl Work {
         Ok(())
     }
 
-    // Takes a sheet whose values solve the equations to settled.
+    // Takes a sheet whose values solve the equations to settled. The slices are only read, so no
+    // space is asked for.
     pub fn close<K: Semiring>(
         self,
         script: Script<'_, K>,

@@ -1,4 +1,4 @@
-use Rattle.std.proofs.Common.{[], Ok, Err, refl, sym, subst}
+use Rattle.std.proofs.Common.{[], refl, sym, subst}
 use Rattle.newton.specs.Slices.{beside, slices}
 use Rattle.newton.specs.Working.{RoundsEnd}
 use Rattle.newton.proofs.Settling.{left_off, settles}
