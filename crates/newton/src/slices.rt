@@ -37,6 +37,7 @@ impl<'a, K: Semiring> Script<'a, K> {
 }
 
 // Fills the first places with zero.
+#[tactic(auto, using(equations::proofs::Slices::written_more))]
 fn clear<K: Semiring>(places: usize, items: &mut [K])
     requires { places ≤ length items.old }
     ensures { items.new ≡ written (λ r. K.algebra.zero) places items.old }
@@ -47,6 +48,7 @@ fn clear<K: Semiring>(places: usize, items: &mut [K])
 }
 
 // Copies the first places.
+#[tactic(auto, using(crate::proofs::Written::written_read))]
 fn copy<K: Semiring>(places: usize, from: &[K], to: &mut [K])
     requires from { places ≤ length from.now }
     requires to { places ≤ length to.old }

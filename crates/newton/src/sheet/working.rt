@@ -141,6 +141,7 @@ fn solve<K: Semiring, S: Solver>(solver: &mut S, n: usize, grid: &mut [K], colum
 // Replaces the values by f of the values.
 // Kept: the slices of a space stand apart here and in step: what lies behind a `&mut` to a space is
 // not known to stay while one of its slices is read and another written (tried with the space).
+#[tactic(auto, using(crate::proofs::Ruled::lifting))]
 fn lift<K: Semiring>(
     size: Size,
     script: Script<'_, K>,
