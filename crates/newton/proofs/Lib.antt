@@ -1,7 +1,6 @@
 pub mod Above
-pub mod Asking
 pub mod Feeding
+pub mod Ruled
 pub mod Settling
-pub mod Shifting
 pub mod Stepping
 pub mod Written

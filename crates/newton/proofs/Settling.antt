@@ -1,38 +1,101 @@
 -- What rounds leave of the places that they do not name.
-use Rattle.std.proofs.Common.{◌≡◌, ℕ, zero, suc, ◌*◌, List, ◌++◌, drop, refl, ap, ◌∙◌}
+use Rattle.std.proofs.Common.{◌≡◌, ℕ, zero, suc, ◌*◌, ◌++◌, length, drop, ap, ◌∙◌, subst, sym, arith, inr, Ok, Err, Result}
+use Rattle.std.specs.Prelude.{IsOk, IfOk, IfErr}
 use Rattle.semiring.specs.Algebra.{Algebra}
+use Rattle.linear.specs.Solved.{one_more}
 use Rattle.equations.specs.Held.{table, written}
-use Rattle.newton.specs.Working.{SlicesOf, Made, RoundsOn, LeavesOff}
-use Rattle.newton.proofs.Written.{written_tail}
+use Rattle.newton.specs.Slices.{SlicesOf}
+use Rattle.newton.specs.declared.sheet.Size.{Size}
+use Rattle.newton.specs.declared.sheet.Work.{Work}
+use Rattle.newton.specs.declared.sheet.Settled.{Settled}
+use Rattle.script.specs.declared.refusal.sheet.SheetRefusal.{SheetRefusal as Refusal}
+use Rattle.newton.specs.Questions.{Passed}
+use Rattle.newton.specs.Working.{HasRoom, slice_questions, RoundsEnd, Stops, SettlesBy, SolvedBy, NewtonStep, Counts, Made, RoundsOn, LeavesOff}
+use Rattle.newton.proofs.Written.{written_tail, written_size}
 
-module _ {K : Type 0} (k : Algebra K) (n held : ℕ) where
-  column_kept : (j : ℕ) (s s' : SlicesOf K) → Made k n held j s s' → drop n s'.column ≡ drop n s.column
+module _ {K : Type 0} (k : Algebra K) (size : Size) where
+  abbrev n : ℕ
+  n = size.n
+
+  column_kept : (j : ℕ) (s s' : SlicesOf K) → Made k size j s s' → drop n s'.column ≡ drop n s.column
   column_kept zero s s' made = ap (λ x. drop n x.column) made
   column_kept (suc j) s s' made =
       written_tail (λ r. k.zero) n made.0.column s'.column made.3.cleared.column ∙ column_kept j s made.0 made.1
 
-  grid_kept : (j : ℕ) (s s' : SlicesOf K) → Made k n held j s s' → drop (n * n) s'.grid ≡ drop (n * n) s.grid
+  grid_kept : (j : ℕ) (s s' : SlicesOf K) → Made k size j s s' → drop (n * n) s'.grid ≡ drop (n * n) s.grid
   grid_kept zero s s' made = ap (λ x. drop (n * n) x.grid) made
   grid_kept (suc j) s s' made =
       written_tail (λ r. k.zero) (n * n) made.0.grid s'.grid made.3.cleared.grid ∙ grid_kept j s made.0 made.1
 
+  -- a step keeps the room that the slices have
+  pub room_kept : (s s' : SlicesOf K) → HasRoom size s → NewtonStep k size s s' → HasRoom size s'
+  room_kept s s' room step = record {
+    branches = omega (arith, room.branches, ap length step.cleared.branches);
+    weights = omega (arith, room.weights, ap length step.cleared.weights);
+    values = omega (arith, room.values, step.places);
+    column = omega (arith, room.column, written_size (λ r. k.zero) n s.column s'.column room.column step.cleared.column);
+    grid = omega (arith, room.grid, written_size (λ r. k.zero) (n * n) s.grid s'.grid room.grid step.cleared.grid);
+  }
+
+  -- one round more
+  pub round_on :
+      (before first : ℕ) (s mid s' : SlicesOf K) (calls calls' : ℕ) (w w' : Work) →
+      w.progress.size ≡ size →
+      RoundsOn k size before s first w.progress.rounds mid calls →
+      (SolvedBy k size mid → ⊥) →
+      Counts k w mid calls w' s' calls' →
+      RoundsOn k size before s first w'.progress.rounds s' calls'
+  round_on before first s mid s' calls calls' w w' same on due counts = record {
+    more = suc on.more;
+    made = (mid, on.made, due, subst (λ z. NewtonStep k z mid s') same counts.step);
+    count = omega (arith, on.count, counts.rounds);
+    calls_are = counts.calls_are ∙ ap one_more on.calls_are;
+  }
+
   -- behind the rounds, column and grid are cleared once more
   pub left_off :
-      (before calls after calls' : ℕ) (s last : SlicesOf K) (column grid : List K) →
-      last.branches ≡ s.branches →
-      last.weights ≡ s.weights →
-      RoundsOn k n held before s calls after last calls' →
-      column ≡ written (λ r. k.zero) n last.column →
-      grid ≡ written (λ r. k.zero) (n * n) last.grid →
-      LeavesOff k n held before s calls after (record { branches = last.branches; weights = last.weights; values = last.values; column = column; grid = grid }) calls'
-  left_off before calls after calls' s last column grid same_branches same_weights on none none' = record {
+      (before calls after calls' : ℕ) (s last s' : SlicesOf K) →
+      s'.branches ≡ s.branches →
+      s'.weights ≡ s.weights →
+      RoundsOn k size before s calls after last calls' →
+      s'.values ≡ last.values →
+      s'.column ≡ written (λ r. k.zero) n last.column →
+      s'.grid ≡ written (λ r. k.zero) (n * n) last.grid →
+      LeavesOff k size before s calls after s' calls'
+  left_off before calls after calls' s last s' branches weights on values none none' = record {
     last = last;
     rounds_on = on;
-    values = refl;
+    values = values;
     cleared = record {
-      branches = same_branches;
-      weights = same_weights;
+      branches = branches;
+      weights = weights;
       column = none ∙ ap (λ l. table (λ r. k.zero) n ++ l) (column_kept on.more s last on.made);
       grid = none' ∙ ap (λ l. table (λ r. k.zero) (n * n) ++ l) (grid_kept on.more s last on.made);
     };
   }
+
+-- settle, from what the rounds leave and how they end
+pub settles :
+    {K : Type 0} (k : Algebra K) (w w' : Work) (s s' : SlicesOf K) (calls calls' : ℕ) (end : Result (Unit {0}) Refusal) (r : Result Settled (Work × Refusal)) →
+    Passed (slice_questions k w.progress.size s) →
+    w'.progress.size ≡ w.progress.size →
+    LeavesOff k w.progress.size w.progress.rounds s calls w'.progress.rounds s' calls' →
+    RoundsEnd k w.progress.size w'.progress.rounds s' end →
+    IfOk r (λ f. (f.progress ≡ w'.progress) × IsOk end) →
+    IfErr r (λ e. (e.0 ≡ w') × (end ≡ Err e.1)) →
+    SettlesBy k w s calls s' calls' r
+settles k w w' s s' calls calls' (Ok done) (Ok f) asked same left solved ok err = record {
+  asked = asked;
+  size = ap (λ p. p.size) ok.0 ∙ same;
+  left = subst (λ p. LeavesOff k w.progress.size w.progress.rounds s calls p.rounds s' calls') (sym ok.0) left;
+  solved = solved;
+}
+settles k w w' s s' calls calls' (Ok done) (Err e) asked same left solved ok err = let never = err.1 in cc
+settles k w w' s s' calls calls' (Err why) (Ok f) asked same left ended ok err = let never = ok.1 in cc
+settles k w w' s s' calls calls' (Err why) (Err e) asked same left ended ok err =
+    let same_why = err.1 in
+    inr (
+      cc,
+      subst (λ v. Stops k w s calls v s' calls') (sym err.0)
+          (record { asked = asked; size = same; left = left; due = ended.1; all = ended.2 }),
+    )

@@ -8,15 +8,20 @@ use Rattle.equations.specs.Equations.{image, slope}
 use Rattle.equations.specs.Held.{table, written, rows}
 use Rattle.equations.proofs.Slices.{entry_written, cell_written}
 use Rattle.equations.proofs.Systems
-use Rattle.newton.specs.Working.{SlicesOf, held_rules, values_of, NewtonStep}
+use Rattle.newton.specs.declared.sheet.Size.{Size}
+use Rattle.newton.specs.Slices.{SlicesOf}
+use Rattle.newton.specs.Working.{held_rules, values_of, NewtonStep}
 use Rattle.newton.proofs.Written.{written_tail, written_size}
 
-module _ {K : Type 0} (k : Algebra K) (n held : ℕ) (s : SlicesOf K) (room : n ≤ length s.values) where
+module _ {K : Type 0} (k : Algebra K) (size : Size) (s : SlicesOf K) (room : size.n ≤ length s.values) where
+  abbrev n : ℕ
+  n = size.n
+
   abbrev f : ℕ → K
-  f = image k (held_rules k held s) (values_of k s)
+  f = image k (held_rules k size s) (values_of k s)
 
   abbrev a : ℕ → ℕ → K
-  a = slope k (held_rules k held s) (values_of k s)
+  a = slope k (held_rules k size s) (values_of k s)
 
   pub stepped :
       (column grid column' grid' values cleared_column cleared_grid : List K) (calls calls' : ℕ) →
@@ -26,11 +31,11 @@ module _ {K : Type 0} (k : Algebra K) (n held : ℕ) (s : SlicesOf K) (room : n 
       values ≡ written (entry_at k column') n s.values →
       cleared_column ≡ written (λ r. k.zero) n column' →
       cleared_grid ≡ written (λ r. k.zero) (n * n) grid' →
-      NewtonStep k n held s (record { branches = s.branches; weights = s.weights; values = values; column = cleared_column; grid = cleared_grid })
+      NewtonStep k size s (record { branches = s.branches; weights = s.weights; values = values; column = cleared_column; grid = cleared_grid })
   stepped column grid column' grid' values cleared_column cleared_grid calls calls' filled sloped solved taken none none' = record {
     least = Existence.least_same k n a f (entry_at k column') (entry_at k values) (entry_written k (entry_at k column') n s.values values taken)
         (Systems.least_same k n (cell k n grid) a (entry_at k column) f (cell_written k a n s.grid grid sloped) (entry_written k f n s.column column filled) (entry_at k column') solved.leaves.least);
-    size = written_size (entry_at k column') n s.values values room taken;
+    places = written_size (entry_at k column') n s.values values room taken;
     tail = written_tail (entry_at k column') n s.values values taken;
     cleared = record {
       branches = refl;

@@ -1,4 +1,5 @@
 pub mod Questions
 pub mod Drafting
 pub mod Loading
+pub mod Slices
 pub mod Working

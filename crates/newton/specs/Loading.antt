@@ -10,7 +10,7 @@ use Rattle.script.specs.Feed.{Ending}
 use Rattle.script.specs.declared.refusal.sheet.SheetRefusal.{SheetRefusal as Refusal}
 use Rattle.newton.specs.declared.sheet.Draft.{Draft}
 use Rattle.newton.specs.Questions.{Refused}
-use Rattle.newton.specs.Drafting.{Same, enter_questions, Enters}
+use Rattle.newton.specs.Drafting.{enter_questions, Enters}
 
 -- the fault of a branch that the sheet refuses
 abbrev pub sheet_fault : Refusal → Placed → Fault
@@ -26,7 +26,7 @@ module _ {K : Type 0} (weight : Branch → K) where
     pub why : Refusal
     pub refused : Refused (enter_questions d item.branch bs ws) why
     pub fault_is : fault ≡ sheet_fault why item
-    pub draft : Same d d'
+    pub draft : d' ≡ d
     pub branches : bs' ≡ bs
     pub weights : ws' ≡ ws
 
@@ -37,7 +37,7 @@ module _ {K : Type 0} (weight : Branch → K) where
 
   -- All branches to come, and the ending.
   abbrev pub Loads : List Placed → Ending → Draft → List Branch → List K → Draft → List Branch → List K → Result (Unit {0}) Fault → Type 0
-  Loads [] ending d bs ws d' bs' ws' r = (r ≡ ended_by ending) × Same d d' × (bs' ≡ bs) × (ws' ≡ ws)
+  Loads [] ending d bs ws d' bs' ws' r = (r ≡ ended_by ending) × (d' ≡ d) × (bs' ≡ bs) × (ws' ≡ ws)
   Loads (item ∷ items) ending d bs ws d' bs' ws' r =
       ((fault : Fault) × (r ≡ Err fault) × TurnedAway item d bs ws d' bs' ws' fault)
       ⊎ ((d₁ : Draft) × (bs₁ : List Branch) × (ws₁ : List K) × Enters weight d item.branch bs ws d₁ bs₁ ws₁ × Loads items ending d₁ bs₁ ws₁ d' bs' ws' r)

@@ -11,42 +11,41 @@ use Rattle.equations.specs.Held.{no_branch, rules_of, written}
 use Rattle.equations.specs.Rule.{Rule}
 use Rattle.script.specs.declared.refusal.sheet.SheetRefusal.{SheetRefusal as Refusal}
 use Rattle.script.specs.declared.refusal.sheet.SheetRefusal.TheVariants.{Slices, Held, Solved, Rounds, Unsolved, Routine}
+use Rattle.newton.specs.declared.sheet.Size.{Size}
 use Rattle.newton.specs.declared.sheet.Draft.{Draft}
 use Rattle.newton.specs.declared.sheet.Work.{Work}
 use Rattle.newton.specs.declared.sheet.Settled.{Settled}
 use Rattle.newton.specs.Questions.{Question, Passed, Refused}
-use Rattle.newton.specs.Drafting.{named, Same}
+use Rattle.newton.specs.Drafting.{named}
+use Rattle.newton.specs.Slices.{SlicesOf}
 
 -- a branch that has at most 4 calls and names routines of the sheet only
 abbrev pub Sound : ℕ → Branch → Type 0
 Sound n b = (b.count ≤ 4) × AllByRecursion (λ m. m < n) (named b)
 
 -- every held branch is sound
-abbrev pub AllSound : ℕ → ℕ → List Branch → Type 0
-AllSound n held bs = (i : ℕ) → i < held → Sound n (slice_index_or bs i no_branch)
+abbrev pub AllSound : Size → List Branch → Type 0
+AllSound size bs = (i : ℕ) → i < size.held → Sound size.n (slice_index_or bs i no_branch)
 
--- What lies in the five slices.
-pub record SlicesOf (K : Type 0) : Type 0 where
-  pub branches : List Branch
-  pub weights : List K
-  pub values : List K
-  pub column : List K
-  pub grid : List K
+-- The slices have a place for each held branch, for each routine, and for each two routines.
+pub record HasRoom {K : Type 0} (size : Size) (s : SlicesOf K) : Type 0 where
+  pub branches : size.held ≤ length s.branches
+  pub weights : size.held ≤ length s.weights
+  pub values : size.n ≤ length s.values
+  pub column : size.n ≤ length s.column
+  pub grid : size.n * size.n ≤ length s.grid
 
 module _ {K : Type 0} (k : Algebra K) where
   -- the rules that are held, and the values of the routines
-  abbrev pub held_rules : ℕ → SlicesOf K → List (Rule K)
-  held_rules held s = rules_of k held s.branches s.weights
+  abbrev pub held_rules : Size → SlicesOf K → List (Rule K)
+  held_rules size s = rules_of k size.held s.branches s.weights
 
   abbrev pub values_of : SlicesOf K → ℕ → K
   values_of s = entry_at k s.values
 
   -- The questions of every call that works on the slices.
-  abbrev pub slice_questions : ℕ → ℕ → SlicesOf K → List Question
-  slice_questions n held s =
-      (Slices, (held ≤ length s.branches) × (held ≤ length s.weights) × (n ≤ length s.values) × (n ≤ length s.column) × (n * n ≤ length s.grid))
-      ∷ (Held, AllSound n held s.branches)
-      ∷ []
+  abbrev pub slice_questions : Size → SlicesOf K → List Question
+  slice_questions size s = (Slices, HasRoom size s) ∷ (Held, AllSound size s.branches) ∷ []
 
   -- The first n places of the column and the first n × n of the grid hold zero; all others are as
   -- they were, and so are branches and weights.
@@ -58,58 +57,53 @@ module _ {K : Type 0} (k : Algebra K) where
 
   -- Start: the values are f of all zeros.
   pub record Starts (d : Draft) (s : SlicesOf K) (w : Work) (s' : SlicesOf K) : Type 0 where
-    pub asked : Passed (slice_questions d.n d.held s)
-    pub n : w.n ≡ d.n
-    pub held : w.held ≡ d.held
-    pub rounds : w.rounds ≡ 0
-    pub values : s'.values ≡ written (image k (held_rules d.held s) (λ r. k.zero)) d.n s.values
-    pub cleared : Cleared d.n s s'
+    pub asked : Passed (slice_questions d.size s)
+    pub size : w.progress.size ≡ d.size
+    pub rounds : w.progress.rounds ≡ 0
+    pub values : s'.values ≡ written (image k (held_rules d.size s) (λ r. k.zero)) d.size.n s.values
+    pub cleared : Cleared d.size.n s s'
 
   abbrev pub Started : Draft → SlicesOf K → SlicesOf K → Result Work (Draft × Refusal) → Type 0
   Started d s s' (Ok w) = Starts d s w s'
-  Started d s s' (Err e) = Refused (slice_questions d.n d.held s) e.1 × Same d e.0 × (s' ≡ s)
-
-  -- the same sheet, in its numbers
-  pub record SameWork (w w' : Work) : Type 0 where
-    pub n : w'.n ≡ w.n
-    pub held : w'.held ≡ w.held
-    pub rounds : w'.rounds ≡ w.rounds
+  Started d s s' (Err e) = Refused (slice_questions d.size s) e.1 × (e.0 ≡ d) × (s' ≡ s)
 
   -- the values solve the equations of the held rules
-  abbrev pub SolvedBy : ℕ → ℕ → SlicesOf K → Type 0
-  SolvedBy n held s = Solves k n (held_rules held s) (values_of s)
+  abbrev pub SolvedBy : Size → SlicesOf K → Type 0
+  SolvedBy size s = Solves k size.n (held_rules size s) (values_of s)
 
   -- The questions of the calls that go on: those, and whether there is anything to do.
-  abbrev pub due_questions : ℕ → ℕ → SlicesOf K → List Question
-  due_questions n held s = slice_questions n held s ++ (Solved, (SolvedBy n held s → ⊥)) ∷ []
+  abbrev pub due_questions : Size → SlicesOf K → List Question
+  due_questions size s = slice_questions size s ++ (Solved, (SolvedBy size s → ⊥)) ∷ []
 
-  -- Climb: the values become f of the values.
+  -- The values become f of the values.
+  pub record Lifts (size : Size) (s s' : SlicesOf K) : Type 0 where
+    pub values : s'.values ≡ written (image k (held_rules size s) (values_of s)) size.n s.values
+    pub cleared : Cleared size.n s s'
+
+  -- Climb: its questions, and what it does.
   pub record Climbs (w : Work) (s s' : SlicesOf K) : Type 0 where
-    pub asked : Passed (due_questions w.n w.held s)
-    pub values : s'.values ≡ written (image k (held_rules w.held s) (values_of s)) w.n s.values
-    pub cleared : Cleared w.n s s'
+    pub asked : Passed (due_questions w.progress.size s)
+    pub lifts : Lifts w.progress.size s s'
 
   abbrev pub Climbed : Work → SlicesOf K → SlicesOf K → Result (Unit {0}) Refusal → Type 0
   Climbed w s s' (Ok done) = Climbs w s s'
-  Climbed w s s' (Err why) = Refused (due_questions w.n w.held s) why × (s' ≡ s)
+  Climbed w s s' (Err why) = Refused (due_questions w.progress.size s) why × (s' ≡ s)
 
   -- Close: only the state changes, and only where the values solve the equations.
   abbrev pub close_questions : Work → SlicesOf K → List Question
-  close_questions w s = slice_questions w.n w.held s ++ (Unsolved, SolvedBy w.n w.held s) ∷ []
+  close_questions w s = slice_questions w.progress.size s ++ (Unsolved, SolvedBy w.progress.size s) ∷ []
 
   pub record Closes (w : Work) (s : SlicesOf K) (f : Settled) : Type 0 where
     pub asked : Passed (close_questions w s)
-    pub n : f.n ≡ w.n
-    pub held : f.held ≡ w.held
-    pub rounds : f.rounds ≡ w.rounds
+    pub progress : f.progress ≡ w.progress
 
   abbrev pub Closed : Work → SlicesOf K → Result Settled (Work × Refusal) → Type 0
   Closed w s (Ok f) = Closes w s f
-  Closed w s (Err e) = Refused (close_questions w s) e.1 × SameWork w e.0
+  Closed w s (Err e) = Refused (close_questions w s) e.1 × (e.0 ≡ w)
 
   -- Figure: the value of one routine.
   abbrev pub figure_questions : Settled → List K → ℕ → List Question
-  figure_questions f values routine = (Slices, f.n ≤ length values) ∷ (Routine, routine < f.n) ∷ []
+  figure_questions f values routine = (Slices, f.progress.size.n ≤ length values) ∷ (Routine, routine < f.progress.size.n) ∷ []
 
   abbrev pub Figured : Settled → List K → ℕ → Result K Refusal → Type 0
   Figured f values routine (Ok figure) = Passed (figure_questions f values routine) × (figure ≡ entry_at k values routine)
@@ -117,32 +111,39 @@ module _ {K : Type 0} (k : Algebra K) where
 
   -- One Newton round from the values before: the values become the least solution of the linear
   -- system with the slopes there for its grid and f there for its column.
-  pub record NewtonStep (n held : ℕ) (s s' : SlicesOf K) : Type 0 where
-    pub least : Least k n (slope k (held_rules held s) (values_of s)) (image k (held_rules held s) (values_of s)) (values_of s')
-    pub size : length s'.values ≡ length s.values
-    pub tail : drop n s'.values ≡ drop n s.values
-    pub cleared : Cleared n s s'
+  pub record NewtonStep (size : Size) (s s' : SlicesOf K) : Type 0 where
+    pub least : Least k size.n (slope k (held_rules size s) (values_of s)) (image k (held_rules size s) (values_of s)) (values_of s')
+    pub places : length s'.values ≡ length s.values
+    pub tail : drop size.n s'.values ≡ drop size.n s.values
+    pub cleared : Cleared size.n s s'
 
-  -- Round: its questions, and what it does, with one call of the solver.
+  -- Round: its questions, and what it does: one step, counted, with one call of the solver.
   abbrev pub round_questions : Work → SlicesOf K → List Question
-  round_questions w s = due_questions w.n w.held s ++ (Rounds, w.rounds < w.n) ∷ []
+  round_questions w s = due_questions w.progress.size s ++ (Rounds, w.progress.rounds < w.progress.size.n) ∷ []
+
+  pub record Counts (w : Work) (s : SlicesOf K) (calls : ℕ) (w' : Work) (s' : SlicesOf K) (calls' : ℕ) : Type 0 where
+    pub size : w'.progress.size ≡ w.progress.size
+    pub rounds : w'.progress.rounds ≡ w.progress.rounds + 1
+    pub step : NewtonStep w.progress.size s s'
+    pub calls_are : calls' ≡ one_more calls
 
   pub record RoundsOnce (w : Work) (s : SlicesOf K) (calls : ℕ) (w' : Work) (s' : SlicesOf K) (calls' : ℕ) : Type 0 where
     pub asked : Passed (round_questions w s)
-    pub n : w'.n ≡ w.n
-    pub held : w'.held ≡ w.held
-    pub rounds : w'.rounds ≡ w.rounds + 1
-    pub step : NewtonStep w.n w.held s s'
-    pub calls_are : calls' ≡ one_more calls
+    pub counts : Counts w s calls w' s' calls'
 
   abbrev pub Rounded : Work → SlicesOf K → ℕ → Work → SlicesOf K → ℕ → Result (Unit {0}) Refusal → Type 0
   Rounded w s calls w' s' calls' (Ok done) = RoundsOnce w s calls w' s' calls'
-  Rounded w s calls w' s' calls' (Err why) = Refused (round_questions w s) why × SameWork w w' × (s' ≡ s) × (calls' ≡ calls)
+  Rounded w s calls w' s' calls' (Err why) = Refused (round_questions w s) why × (w' ≡ w) × (s' ≡ s) × (calls' ≡ calls)
+
+  -- A round where there is one left.
+  abbrev pub GoesOn : Work → SlicesOf K → ℕ → Work → SlicesOf K → ℕ → Result (Unit {0}) Refusal → Type 0
+  GoesOn w s calls w' s' calls' (Ok done) = (w.progress.rounds < w.progress.size.n) × Counts w s calls w' s' calls'
+  GoesOn w s calls w' s' calls' (Err why) = (why ≡ Rounds) × (w.progress.rounds ≡ w.progress.size.n) × (w' ≡ w) × (s' ≡ s) × (calls' ≡ calls)
 
   -- So many rounds one after the other, each made where f of the values was not the values.
-  abbrev pub Made : ℕ → ℕ → ℕ → SlicesOf K → SlicesOf K → Type 0
-  Made n held zero s s' = s' ≡ s
-  Made n held (suc j) s s' = (mid : SlicesOf K) × Made n held j s mid × (SolvedBy n held mid → ⊥) × NewtonStep n held mid s'
+  abbrev pub Made : Size → ℕ → SlicesOf K → SlicesOf K → Type 0
+  Made size zero s s' = s' ≡ s
+  Made size (suc j) s s' = (mid : SlicesOf K) × Made size j s mid × (SolvedBy size mid → ⊥) × NewtonStep size mid s'
 
   -- The solver's count behind so many calls.
   abbrev pub counted : ℕ → ℕ → ℕ
@@ -150,38 +151,41 @@ module _ {K : Type 0} (k : Algebra K) where
   counted (suc j) calls = one_more (counted j calls)
 
   -- Rounds from a sheet that has made some: how many, and what they leave.
-  pub record RoundsOn (n held before : ℕ) (s : SlicesOf K) (calls after : ℕ) (s' : SlicesOf K) (calls' : ℕ) : Type 0 where
+  pub record RoundsOn (size : Size) (before : ℕ) (s : SlicesOf K) (calls after : ℕ) (s' : SlicesOf K) (calls' : ℕ) : Type 0 where
     pub more : ℕ
-    pub made : Made n held more s s'
+    pub made : Made size more s s'
     pub count : after ≡ before + more
     pub calls_are : calls' ≡ counted more calls
 
+  -- Rounds end where the values solve the equations, or where none is left.
+  abbrev pub RoundsEnd : Size → ℕ → SlicesOf K → Result (Unit {0}) Refusal → Type 0
+  RoundsEnd size rounds s (Ok done) = SolvedBy size s
+  RoundsEnd size rounds s (Err why) = (why ≡ Rounds) × (SolvedBy size s → ⊥) × (rounds ≡ size.n)
+
   -- What settle leaves: the values behind the rounds that it made, column and grid cleared.
-  pub record LeavesOff (n held before : ℕ) (s : SlicesOf K) (calls after : ℕ) (s' : SlicesOf K) (calls' : ℕ) : Type 0 where
+  pub record LeavesOff (size : Size) (before : ℕ) (s : SlicesOf K) (calls after : ℕ) (s' : SlicesOf K) (calls' : ℕ) : Type 0 where
     pub last : SlicesOf K
-    pub rounds_on : RoundsOn n held before s calls after last calls'
+    pub rounds_on : RoundsOn size before s calls after last calls'
     pub values : s'.values ≡ last.values
-    pub cleared : Cleared n s s'
+    pub cleared : Cleared size.n s s'
 
   -- Settle makes rounds as long as f of the values is not the values, then closes.
   pub record Settles (w : Work) (s : SlicesOf K) (calls : ℕ) (f : Settled) (s' : SlicesOf K) (calls' : ℕ) : Type 0 where
-    pub asked : Passed (slice_questions w.n w.held s)
-    pub n : f.n ≡ w.n
-    pub held : f.held ≡ w.held
-    pub left : LeavesOff w.n w.held w.rounds s calls f.rounds s' calls'
-    pub solved : SolvedBy w.n w.held s'
+    pub asked : Passed (slice_questions w.progress.size s)
+    pub size : f.progress.size ≡ w.progress.size
+    pub left : LeavesOff w.progress.size w.progress.rounds s calls f.progress.rounds s' calls'
+    pub solved : SolvedBy w.progress.size s'
 
   -- A further round is due, and n have been made: what was made is kept.
   pub record Stops (w : Work) (s : SlicesOf K) (calls : ℕ) (w' : Work) (s' : SlicesOf K) (calls' : ℕ) : Type 0 where
-    pub asked : Passed (slice_questions w.n w.held s)
-    pub n : w'.n ≡ w.n
-    pub held : w'.held ≡ w.held
-    pub left : LeavesOff w.n w.held w.rounds s calls w'.rounds s' calls'
-    pub due : SolvedBy w.n w.held s' → ⊥
-    pub all : w'.rounds ≡ w.n
+    pub asked : Passed (slice_questions w.progress.size s)
+    pub size : w'.progress.size ≡ w.progress.size
+    pub left : LeavesOff w.progress.size w.progress.rounds s calls w'.progress.rounds s' calls'
+    pub due : SolvedBy w.progress.size s' → ⊥
+    pub all : w'.progress.rounds ≡ w.progress.size.n
 
   abbrev pub SettlesBy : Work → SlicesOf K → ℕ → SlicesOf K → ℕ → Result Settled (Work × Refusal) → Type 0
   SettlesBy w s calls s' calls' (Ok f) = Settles w s calls f s' calls'
   SettlesBy w s calls s' calls' (Err e) =
-      (Refused (slice_questions w.n w.held s) e.1 × SameWork w e.0 × (s' ≡ s) × (calls' ≡ calls))
+      (Refused (slice_questions w.progress.size s) e.1 × (e.0 ≡ w) × (s' ≡ s) × (calls' ≡ calls))
       ⊎ ((e.1 ≡ Rounds) × Stops w s calls e.0 s' calls')

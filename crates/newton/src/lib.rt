@@ -4,5 +4,7 @@
 
 pub mod refusal;
 mod sheet;
+mod slices;
 
 pub use sheet::{Draft, Settled, Work};
+pub use slices::{Script, Space};

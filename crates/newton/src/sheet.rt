@@ -1,37 +1,51 @@
 // The three states of a sheet. A sheet is three numbers: how many routines it has, how many
 // branches it holds, and how many rounds it has made. What it works on lies in slices that are
 // lent to each call.
-ghost use Rattle.std.specs.Prelude.{◌≤◌};
+ghost use Rattle.std.specs.Prelude.{◌≡◌, ◌≤◌};
 
-// Branches are entered and struck here. There are none at new.
-#[derive(Drop)]
-pub struct Draft {
+// How many routines a sheet has, and how many branches it holds.
+#[derive(Clone, Copy)]
+struct Size {
     n: usize,
     held: usize,
     ghost routines: { n ≤ 32 },
     ghost branches: { held ≤ 200 },
+}
+
+// How far a sheet has come: the rounds that it has made, at most one for each routine.
+#[derive(Drop)]
+struct Progress {
+    size: Size,
+    rounds: usize,
+    ghost bound: { rounds ≤ size.n },
+}
+
+impl Progress {
+    // No round has been made.
+    fn new(size: Size) -> Progress
+        ensures size { result.size ≡ size }
+        ensures rounds { result.rounds ≡ 0 }
+    {
+        Progress { size, rounds: 0 }
+    }
+}
+
+// Branches are entered and struck here. There are none at new.
+#[derive(Drop)]
+pub struct Draft {
+    size: Size,
 }
 
 // Its values are on their way to a solution.
 #[derive(Drop)]
 pub struct Work {
-    n: usize,
-    held: usize,
-    rounds: usize,
-    ghost routines: { n ≤ 32 },
-    ghost branches: { held ≤ 200 },
-    ghost bound: { rounds ≤ n },
+    progress: Progress,
 }
 
 // Its values solve the equations.
 #[derive(Drop)]
 pub struct Settled {
-    n: usize,
-    held: usize,
-    rounds: usize,
-    ghost routines: { n ≤ 32 },
-    ghost branches: { held ≤ 200 },
-    ghost bound: { rounds ≤ n },
+    progress: Progress,
 }
 
 mod drafting;

@@ -1,11 +1,11 @@
 // The calls of a draft.
-ghost use Rattle.std.specs.Prelude.{◌≡◌, ◌<◌, ◌≤◌, true, false, [], length, None, OnOk};
+ghost use Rattle.std.specs.Prelude.{◌≡◌, ◌<◌, ◌≤◌, ◌↔◌, [], length, None, OnOk, IsTrue};
 ghost use Rattle.newton.specs.Loading.{Taken, Loads};
 ghost use Rattle.std.specs.List.{AllByRecursion};
 ghost use Rattle.newton.specs.Questions.{Asked};
 ghost use Rattle.newton.specs.Drafting.{named, above, enter_questions, Entered, strike_questions, shifted, Struck};
 
-use super::Draft;
+use super::{Draft, Size};
 use crate::refusal::Refusal;
 use script::branch::{Branch, Placed};
 use script::fault::{Cause, Fault};
@@ -15,21 +15,14 @@ use semiring::Semiring;
 
 // Whether every number lies below a bound.
 fn all_below(numbers: &[u8], top: u8) -> bool
-    ensures yes { result ≡ true → AllByRecursion (λ m. m < top) numbers.now }
-    ensures no { result ≡ false → AllByRecursion (λ m. m < top) numbers.now → ⊥ }
+    ensures { IsTrue result ↔ AllByRecursion (λ m. m < top) numbers.now }
 {
-    for number in numbers {
-        if *number >= top {
-            return false;
-        }
-    }
-    true
+    numbers.iter().all(|number| *number < top)
 }
 
 // Whether a branch names only routines below a bound.
 pub(super) fn names_below(branch: &Branch, top: u8) -> bool
-    ensures yes { result ≡ true → AllByRecursion (λ m. m < top) (named branch.now) }
-    ensures no { result ≡ false → AllByRecursion (λ m. m < top) (named branch.now) → ⊥ }
+    ensures { IsTrue result ↔ AllByRecursion (λ m. m < top) (named branch.now) }
 {
     branch.routine < top && all_below(branch.counted_calls(), top)
 }
@@ -38,29 +31,27 @@ pub(super) fn names_below(branch: &Branch, top: u8) -> bool
 fn raised(n: usize, numbers: &[u8]) -> usize
     ensures { result ≡ above n numbers.now }
 {
-    let mut top = n;
-    for number in numbers {
-        top = top.max(*number as usize + 1);
-    }
-    top
+    numbers
+        .iter()
+        .fold(n, |top, number| top.max(*number as usize + 1))
 }
 
 // Moves what stands behind a place, up to the last one, down one place.
 fn move_down<T: Copy>(items: &mut [T], at: usize, last: usize)
-    requires { (at ≤ last) × (last < length items.old) }
+    requires order { at ≤ last }
+    requires room { last < length items.old }
     ensures { items.new ≡ shifted at last items.old }
 {
-    for i in at..last {
-        items[i] = items[i + 1];
-    }
+    items.copy_within(at + 1..last + 1, at);
 }
 
 impl Draft {
     pub fn new() -> Draft
-        ensures n { result.n ≡ 0 }
-        ensures held { result.held ≡ 0 }
+        ensures n { result.size.n ≡ 0 }
+        ensures held { result.size.held ≡ 0 }
     {
-        Draft { n: 0, held: 0 }
+        let size = Size { n: 0, held: 0 };
+        Draft { size }
     }
 
     // The questions of enter, in order.
@@ -81,7 +72,8 @@ impl Draft {
         if branch.seconds > 3600 || branch.turn > 23 {
             return Err(Refusal::Range);
         }
-        if self.held >= 200 || self.held >= branches.len() || self.held >= weights.len() {
+        let held = self.size.held;
+        if held >= 200 || held >= branches.len() || held >= weights.len() {
             return Err(Refusal::Room);
         }
         Ok(())
@@ -94,14 +86,19 @@ impl Draft {
         branches: &mut [Branch],
         weights: &mut [W],
     ) -> Result<(), Refusal>
-        ensures { Entered W.Weighing.weight self.old branch.now branches.old weights.old self.new branches.new weights.new result }
+        ensures { Entered W.Weighing.weight
+            self.old branch.now branches.old weights.old
+            self.new branches.new weights.new
+            result }
     {
         self.may_enter(branch, branches, weights)?;
-        let held = self.held;
+        let Size { n, held, .. } = self.size;
         branches[held] = *branch;
         weights[held] = W::weigh(branch);
-        self.n = raised(raised(self.n, &[branch.routine]), branch.counted_calls());
-        self.held = held + 1;
+        self.size = Size {
+            n: raised(raised(n, &[branch.routine]), branch.counted_calls()),
+            held: held + 1,
+        };
         Ok(())
     }
 
@@ -114,10 +111,11 @@ impl Draft {
     ) -> Result<(), Refusal>
         ensures { Asked (strike_questions self.now place branches.now weights.now) result }
     {
-        if branches.len() < self.held || weights.len() < self.held {
+        let held = self.size.held;
+        if branches.len() < held || weights.len() < held {
             return Err(Refusal::Slices);
         }
-        if place >= self.held {
+        if place >= held {
             return Err(Refusal::Place);
         }
         Ok(())
@@ -130,13 +128,16 @@ impl Draft {
         branches: &mut [Branch],
         weights: &mut [W],
     ) -> Result<(), Refusal>
-        ensures { Struck self.old place branches.old weights.old self.new branches.new weights.new result }
+        ensures { Struck
+            self.old place branches.old weights.old
+            self.new branches.new weights.new
+            result }
     {
         self.may_strike(place, branches, weights)?;
-        let last = self.held - 1;
+        let last = self.size.held - 1;
         move_down(branches, place, last);
         move_down(weights, place, last);
-        self.held = last;
+        self.size.held = last;
         Ok(())
     }
 
@@ -147,15 +148,16 @@ impl Draft {
         branches: &mut [Branch],
         weights: &mut [W],
     ) -> Result<(), Fault>
-        ensures { Taken W.Weighing.weight item.now self.old branches.old weights.old self.new branches.new weights.new result }
+        ensures { Taken W.Weighing.weight
+            item.now self.old branches.old weights.old
+            self.new branches.new weights.new
+            result }
     {
-        match self.enter(&item.branch, branches, weights) {
-            Ok(()) => Ok(()),
-            Err(refusal) => Err(Fault {
+        self.enter(&item.branch, branches, weights)
+            .map_err(|refusal| Fault {
                 cause: Cause::Sheet(refusal),
                 place: item.place,
-            }),
-        }
+            })
     }
 
     // Enters the branches of a source, one after the other.
@@ -165,8 +167,13 @@ impl Draft {
         branches: &mut [Branch],
         weights: &mut [W],
     ) -> Result<(), Fault>
-        ensures loads { Loads W.Weighing.weight (S.Source.feed source.old).items (S.Source.feed source.old).ending self.old branches.old weights.old self.new branches.new weights.new result }
-        ensures used { OnOk result (S.Source.feed source.new ≡ record { items = []; ending = None }) }
+        ensures loads { let feed = S.Source.feed source.old in
+            Loads W.Weighing.weight feed.items feed.ending
+            self.old branches.old weights.old
+            self.new branches.new weights.new
+            result }
+        ensures used { OnOk result
+            (S.Source.feed source.new ≡ record { items = []; ending = None }) }
         ensures legend { S.Source.legend source.new ≡ S.Source.legend source.old }
     {
         while let Some(item) = source.next()? {

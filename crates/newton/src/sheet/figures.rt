@@ -11,10 +11,11 @@ impl Settled {
     pub fn figure<K: Semiring>(&self, values: &[K], routine: usize) -> Result<K, Refusal>
         ensures { Figured K.algebra self.now values.now routine result }
     {
-        if values.len() < self.n {
+        let n = self.progress.size.n;
+        if values.len() < n {
             return Err(Refusal::Slices);
         }
-        if routine >= self.n {
+        if routine >= n {
             return Err(Refusal::Routine);
         }
         Ok(values[routine])
@@ -22,8 +23,8 @@ impl Settled {
 
     // How many rounds were made.
     pub fn rounds(&self) -> usize
-        ensures { result ≡ self.now.rounds }
+        ensures { result ≡ self.now.progress.rounds }
     {
-        self.rounds
+        self.progress.rounds
     }
 }

@@ -1,84 +1,102 @@
 // The calls of a sheet at work.
-ghost use Rattle.std.specs.Prelude.{◌≡◌, ℕ, ◌*◌, ◌<◌, ◌≤◌, true, false, length};
-ghost use Rattle.equations.specs.Held.{no_branch, written, rules_of};
-ghost use Rattle.newton.specs.Questions.{Asked};
-ghost use Rattle.newton.specs.Working.{AllSound, slice_questions, due_questions, Started, Climbed, Closed, NewtonStep, Rounded, RoundsOn, SettlesBy};
-ghost use Rattle.equations.specs.Equations.{Solves};
+ghost use Rattle.std.specs.Prelude.{◌≡◌, ◌<◌, ◌≤◌, ◌↔◌, [], length, IsTrue, IsOk, IfOk, IfErr};
+ghost use Rattle.equations.specs.Held.{no_branch, written};
 ghost use Rattle.linear.specs.Solved.{Fits, Accepted, one_more};
 ghost use Rattle.linear.specs.System.{entry_at};
+ghost use Rattle.newton.specs.Questions.{Asked};
+ghost use Rattle.newton.specs.Slices.{beside, slices, SameLent};
+ghost use Rattle.newton.specs.Working.{Sound, AllSound, HasRoom, slice_questions, due_questions, close_questions, Started, Climbed, Closed, Lifts, NewtonStep, GoesOn, SolvedBy, Rounded, RoundsOn, RoundsEnd, SettlesBy};
 
 use super::drafting::names_below;
-use super::{Draft, Settled, Work};
+use super::{Draft, Progress, Settled, Size, Work};
 use crate::refusal::Refusal;
-use equations::{image, slopes, solves};
+use crate::slices::{Script, Space, take_over};
 use linear::solver::Solver;
 use script::branch::Branch;
 use semiring::Semiring;
 
-// Whether every held branch has at most 4 calls, and names routines below n only.
-fn all_sound(n: u8, held: usize, branches: &[Branch]) -> bool
-    requires { held ≤ length branches.now }
-    ensures yes { result ≡ true → AllSound n held branches.now }
-    ensures no { result ≡ false → AllSound n held branches.now → ⊥ }
+// Whether a branch has at most 4 calls, and names routines below n only.
+fn is_sound(n: u8, branch: &Branch) -> bool
+    ensures { IsTrue result ↔ Sound n branch.now }
 {
-    for i in 0..held {
-        if branches[i].count > 4 || !names_below(&branches[i], n) {
-            return false;
-        }
-    }
-    true
+    branch.count <= 4 && names_below(branch, n)
 }
 
-// Fills the first places with zero.
-fn clear<K: Semiring>(places: usize, items: &mut [K])
-    requires { places ≤ length items.old }
-    ensures { items.new ≡ written (λ r. K.algebra.zero) places items.old }
+// Whether every held branch is sound.
+fn all_sound(size: Size, branches: &[Branch]) -> bool
+    requires { size.held ≤ length branches.now }
+    ensures yes { IsTrue result → AllSound size branches.now }
+    ensures complete { AllSound size branches.now → IsTrue result }
 {
-    for i in 0..places {
-        items[i] = K::zero();
-    }
+    let n = size.n as u8;
+    branches[..size.held]
+        .iter()
+        .all(|branch| is_sound(n, branch))
 }
 
 // The questions on the slices, in order.
 fn ready<K: Semiring>(
-    n: usize,
-    held: usize,
-    branches: &[Branch],
-    weights: &[K],
+    size: Size,
+    script: Script<'_, K>,
     values: &[K],
     column: &[K],
     grid: &[K],
 ) -> Result<(), Refusal>
-    requires { n ≤ 32 }
-    ensures { Asked (slice_questions K.algebra n held (record { branches = branches.now; weights = weights.now; values = values.now; column = column.now; grid = grid.now })) result }
+    ensures { Asked
+        (slice_questions K.algebra size (beside script.entry values.now column.now grid.now))
+        result }
 {
-    if branches.len() < held || weights.len() < held {
+    let Size { n, held, .. } = size;
+    if script.branches.len() < held || script.weights.len() < held {
         return Err(Refusal::Slices);
     }
     if values.len() < n || column.len() < n || grid.len() < n * n {
         return Err(Refusal::Slices);
     }
-    if !all_sound(n as u8, held, branches) {
+    if !all_sound(size, script.branches) {
         return Err(Refusal::Held);
     }
     Ok(())
 }
 
+// The questions on a script and a space, in order.
+fn ready_in<K: Semiring>(
+    size: Size,
+    script: Script<'_, K>,
+    space: &Space<'_, '_, '_, K>,
+) -> Result<(), Refusal>
+    ensures { Asked (slice_questions K.algebra size (slices script.entry space.now)) result }
+{
+    ready(size, script, space.values, space.column, space.grid)
+}
+
+// Whether the values solve the equations of the held rules. Column and grid have no part in that.
+fn solved<K: Semiring>(size: Size, script: Script<'_, K>, values: &[K]) -> bool
+    requires branches { size.held ≤ length script.branches.now }
+    requires weights { size.held ≤ length script.weights.now }
+    ensures { IsTrue result ↔ SolvedBy K.algebra size (beside script.entry values.now [] []) }
+{
+    script.rules(size.held).solves(size.n, values)
+}
+
+// The same of the values of a space.
+fn solved_in<K: Semiring>(size: Size, script: Script<'_, K>, space: &Space<'_, '_, '_, K>) -> bool
+    requires { HasRoom size (slices script space.now) }
+    ensures { IsTrue result ↔ SolvedBy K.algebra size (slices script.entry space.now) }
+{
+    solved(size, script, space.values)
+}
+
 // The questions of the calls that go on, in order.
 fn due<K: Semiring>(
-    n: usize,
-    held: usize,
-    branches: &[Branch],
-    weights: &[K],
-    values: &[K],
-    column: &[K],
-    grid: &[K],
+    size: Size,
+    script: Script<'_, K>,
+    space: &Space<'_, '_, '_, K>,
 ) -> Result<(), Refusal>
-    requires { n ≤ 32 }
-    ensures { Asked (due_questions K.algebra n held (record { branches = branches.now; weights = weights.now; values = values.now; column = column.now; grid = grid.now })) result }
+    ensures { Asked (due_questions K.algebra size (slices script.entry space.now)) result }
 {
-    ready(n, held, branches, weights, values, column, grid)?;
-    if solves(n, held, branches, weights, values) {
+    ready_in(size, script, space)?;
+    if solved_in(size, script, space) {
         return Err(Refusal::Solved);
     }
     Ok(())
@@ -88,40 +106,31 @@ impl Draft {
     // Takes a draft to work: the values are f of all zeros.
     pub fn start<K: Semiring>(
         self,
-        branches: &[Branch],
-        weights: &[K],
-        values: &mut [K],
-        column: &mut [K],
-        grid: &mut [K],
+        script: Script<'_, K>,
+        space: &mut Space<'_, '_, '_, K>,
     ) -> Result<Work, (Draft, Refusal)>
-        ensures { Started K.algebra self (record { branches = branches.now; weights = weights.now; values = values.old; column = column.old; grid = grid.old }) (record { branches = branches.now; weights = weights.now; values = values.new; column = column.new; grid = grid.new }) result }
+        ensures starts { Started K.algebra self
+            (slices script.entry space.old) (slices script.entry space.new) result }
+        ensures lent { SameLent space.old space.new }
     {
-        let n = self.n;
-        let held = self.held;
-        if let Err(refusal) = ready(n, held, branches, weights, values, column, grid) {
+        let size = self.size;
+        if let Err(refusal) = ready_in(size, script, space) {
             return Err((self, refusal));
         }
-        image(n, held, branches, weights, &[], values);
-        clear(n, column);
-        clear(n * n, grid);
-        Ok(Work { n, held, rounds: 0 })
-    }
-}
-
-// Copies the first places.
-fn copy<K: Semiring>(places: usize, from: &[K], to: &mut [K])
-    requires { (places ≤ length from.now) × (places ≤ length to.old) }
-    ensures { to.new ≡ written (entry_at K.algebra from.now) places to.old }
-{
-    for i in 0..places {
-        to[i] = from[i];
+        script.rules(size.held).image(size.n, &[], space.values);
+        space.clear(size.n);
+        Ok(Work {
+            progress: Progress::new(size),
+        })
     }
 }
 
 // Has a solver solve a system that it takes.
 fn solve<K: Semiring, S: Solver>(solver: &mut S, n: usize, grid: &mut [K], column: &mut [K])
     requires { Fits n grid.old column.old }
-    ensures { Accepted K.Semiring.algebra n (S.Solver.calls solver.old) grid.old column.old (S.Solver.calls solver.new) grid.new column.new }
+    ensures { Accepted K.Semiring.algebra n
+        (S.Solver.calls solver.old) grid.old column.old
+        (S.Solver.calls solver.new) grid.new column.new }
 {
     match solver.solve(n, grid, column) {
         Ok(()) => {}
@@ -129,174 +138,216 @@ fn solve<K: Semiring, S: Solver>(solver: &mut S, n: usize, grid: &mut [K], colum
     }
 }
 
-// One Newton round.
-fn step<K: Semiring, S: Solver>(
-    solver: &mut S,
-    n: usize,
-    held: usize,
-    branches: &[Branch],
-    weights: &[K],
+// Replaces the values by f of the values.
+// Kept: the slices of a space stand apart here and in step: what lies behind a `&mut` to a space is
+// not known to stay while one of its slices is read and another written (tried with the space).
+#[tactic(auto, using(crate::proofs::Ruled::lifting))]
+fn lift<K: Semiring>(
+    size: Size,
+    script: Script<'_, K>,
     values: &mut [K],
     column: &mut [K],
     grid: &mut [K],
 )
-    requires few { n ≤ 32 }
-    requires script { (held ≤ length branches.now) × (held ≤ length weights.now) }
-    requires room { (n ≤ length values.old) × ((n ≤ length column.old) × (n * n ≤ length grid.old)) }
-    ensures step { NewtonStep K.Semiring.algebra n held (record { branches = branches.now; weights = weights.now; values = values.old; column = column.old; grid = grid.old }) (record { branches = branches.now; weights = weights.now; values = values.new; column = column.new; grid = grid.new }) }
-    ensures calls { S.Solver.calls solver.new ≡ one_more (S.Solver.calls solver.old) }
+    requires { HasRoom size (beside script values.old column.old grid.old) }
+    ensures { Lifts K.algebra size
+        (beside script.entry values.old column.old grid.old)
+        (beside script.entry values.new column.new grid.new) }
 {
-    image(n, held, branches, weights, values, column);
-    slopes(n, held, branches, weights, values, grid);
-    solve(solver, n, grid, column);
-    copy(n, column, values);
-    clear(n, column);
-    clear(n * n, grid);
+    let n = size.n;
+    script.rules(size.held).image(n, values, column);
+    take_over(n, values, column, grid);
 }
 
-// Makes rounds as long as the values do not solve the equations and fewer than n have been made.
-// Answers how many have been made in all, and whether the values solve the equations.
-fn make_rounds<K: Semiring, S: Solver>(
+// One Newton round.
+fn step<K: Semiring, S: Solver>(
     solver: &mut S,
-    n: usize,
-    held: usize,
-    rounds: usize,
-    branches: &[Branch],
-    weights: &[K],
+    size: Size,
+    script: Script<'_, K>,
     values: &mut [K],
     column: &mut [K],
     grid: &mut [K],
-) -> (usize, bool)
-    requires few { (n ≤ 32) × (rounds ≤ n) }
-    requires script { (held ≤ length branches.now) × (held ≤ length weights.now) }
-    requires room { (n ≤ length values.old) × ((n ≤ length column.old) × (n * n ≤ length grid.old)) }
-    ensures bound { result.0 ≤ n }
-    ensures rounds { RoundsOn K.Semiring.algebra n held rounds (record { branches = branches.now; weights = weights.now; values = values.old; column = column.old; grid = grid.old }) (S.Solver.calls solver.old) result.0 (record { branches = branches.now; weights = weights.now; values = values.new; column = column.new; grid = grid.new }) (S.Solver.calls solver.new) }
-    ensures solved { result.1 ≡ true → Solves K.Semiring.algebra n (rules_of K.Semiring.algebra held branches.now weights.now) (entry_at K.Semiring.algebra values.new) }
-    ensures due { result.1 ≡ false → (Solves K.Semiring.algebra n (rules_of K.Semiring.algebra held branches.now weights.now) (entry_at K.Semiring.algebra values.new) → ⊥) × (result.0 ≡ n) }
+)
+    requires { HasRoom size (beside script values.old column.old grid.old) }
+    ensures step { NewtonStep K.Semiring.algebra size
+        (beside script.entry values.old column.old grid.old)
+        (beside script.entry values.new column.new grid.new) }
+    ensures calls { S.Solver.calls solver.new ≡ one_more (S.Solver.calls solver.old) }
 {
-    let mut made = rounds;
-    while !solves(n, held, branches, weights, values) {
-        if made >= n {
-            return (made, false);
-        }
-        step(solver, n, held, branches, weights, values, column, grid);
-        made += 1;
-    }
-    (made, true)
+    let n = size.n;
+    let rules = script.rules(size.held);
+    rules.image(n, values, column);
+    rules.slopes(n, values, grid);
+    solve(solver, n, grid, column);
+    take_over(n, values, column, grid);
 }
 
 impl Work {
+    // Makes a round, if fewer have been made than there are routines.
+    fn go_on<K: Semiring, S: Solver>(
+        &mut self,
+        solver: &mut S,
+        script: Script<'_, K>,
+        space: &mut Space<'_, '_, '_, K>,
+    ) -> Result<(), Refusal>
+        requires { HasRoom self.old.progress.size (slices script space.old) }
+        ensures goes { GoesOn K.Semiring.algebra
+            self.old (slices script.entry space.old) (S.Solver.calls solver.old)
+            self.new (slices script.entry space.new) (S.Solver.calls solver.new)
+            result }
+        ensures lent { SameLent space.old space.new }
+    {
+        let progress = &mut self.progress;
+        let size = progress.size;
+        if progress.rounds >= size.n {
+            return Err(Refusal::Rounds);
+        }
+        let Space {
+            values,
+            column,
+            grid,
+        } = space;
+        step(solver, size, script, values, column, grid);
+        progress.rounds += 1;
+        Ok(())
+    }
+
+    // Makes rounds as long as the values do not solve the equations.
+    fn make_rounds<K: Semiring, S: Solver>(
+        &mut self,
+        solver: &mut S,
+        script: Script<'_, K>,
+        space: &mut Space<'_, '_, '_, K>,
+    ) -> Result<(), Refusal>
+        requires { HasRoom self.old.progress.size (slices script space.old) }
+        ensures size { self.new.progress.size ≡ self.old.progress.size }
+        ensures rounds { RoundsOn K.Semiring.algebra self.old.progress.size
+            self.old.progress.rounds (slices script.entry space.old) (S.Solver.calls solver.old)
+            self.new.progress.rounds (slices script.entry space.new) (S.Solver.calls solver.new) }
+        ensures end { RoundsEnd K.Semiring.algebra self.old.progress.size
+            self.new.progress.rounds (slices script.entry space.new) result }
+        ensures room { HasRoom self.old.progress.size (slices script.entry space.new) }
+        ensures lent { SameLent space.old space.new }
+    {
+        let size = self.progress.size;
+        while !solved_in(size, script, space) {
+            self.go_on(solver, script, space)?;
+        }
+        Ok(())
+    }
+
     // Replaces the values by the least solution of the linear system at them.
     pub fn round<K: Semiring, S: Solver>(
         &mut self,
         solver: &mut S,
-        branches: &[Branch],
-        weights: &[K],
-        values: &mut [K],
-        column: &mut [K],
-        grid: &mut [K],
+        script: Script<'_, K>,
+        space: &mut Space<'_, '_, '_, K>,
     ) -> Result<(), Refusal>
-        ensures { Rounded K.Semiring.algebra self.old (record { branches = branches.now; weights = weights.now; values = values.old; column = column.old; grid = grid.old }) (S.Solver.calls solver.old) self.new (record { branches = branches.now; weights = weights.now; values = values.new; column = column.new; grid = grid.new }) (S.Solver.calls solver.new) result }
+        ensures rounds { Rounded K.Semiring.algebra
+            self.old (slices script.entry space.old) (S.Solver.calls solver.old)
+            self.new (slices script.entry space.new) (S.Solver.calls solver.new)
+            result }
+        ensures lent { SameLent space.old space.new }
     {
-        let n = self.n;
-        let held = self.held;
-        due(n, held, branches, weights, values, column, grid)?;
-        if self.rounds >= n {
-            return Err(Refusal::Rounds);
-        }
-        step(solver, n, held, branches, weights, values, column, grid);
-        self.rounds += 1;
-        Ok(())
+        due(self.progress.size, script, space)?;
+        self.go_on(solver, script, space)
     }
 
     // Replaces the values by f of the values.
     pub fn climb<K: Semiring>(
         &self,
-        branches: &[Branch],
-        weights: &[K],
-        values: &mut [K],
-        column: &mut [K],
-        grid: &mut [K],
+        script: Script<'_, K>,
+        space: &mut Space<'_, '_, '_, K>,
     ) -> Result<(), Refusal>
-        ensures { Climbed K.algebra self.now (record { branches = branches.now; weights = weights.now; values = values.old; column = column.old; grid = grid.old }) (record { branches = branches.now; weights = weights.now; values = values.new; column = column.new; grid = grid.new }) result }
+        ensures climbs { Climbed K.algebra self.now
+            (slices script.entry space.old) (slices script.entry space.new) result }
+        ensures lent { SameLent space.old space.new }
     {
-        let n = self.n;
-        let held = self.held;
-        due(n, held, branches, weights, values, column, grid)?;
-        image(n, held, branches, weights, values, column);
-        copy(n, column, values);
-        clear(n, column);
-        clear(n * n, grid);
+        let size = self.progress.size;
+        due(size, script, space)?;
+        let Space {
+            values,
+            column,
+            grid,
+        } = space;
+        lift(size, script, values, column, grid);
         Ok(())
+    }
+
+    // Settled, or handed back with what refuses that.
+    fn settled_if(self, end: Result<(), Refusal>) -> Result<Settled, (Work, Refusal)>
+        ensures ok { IfOk result (λ f. (f.progress ≡ self.progress) × IsOk end) }
+        ensures err { IfErr result (λ e. (e.0 ≡ self) × (end ≡ Err e.1)) }
+    {
+        match end {
+            Ok(()) => Ok(Settled {
+                progress: self.progress,
+            }),
+            Err(refusal) => Err((self, refusal)),
+        }
     }
 
     // Makes rounds as long as the values do not solve the equations, then closes.
     pub fn settle<K: Semiring, S: Solver>(
-        self,
+        mut self,
         solver: &mut S,
-        branches: &[Branch],
-        weights: &[K],
-        values: &mut [K],
-        column: &mut [K],
-        grid: &mut [K],
+        script: Script<'_, K>,
+        space: &mut Space<'_, '_, '_, K>,
     ) -> Result<Settled, (Work, Refusal)>
-        ensures { SettlesBy K.Semiring.algebra self (record { branches = branches.now; weights = weights.now; values = values.old; column = column.old; grid = grid.old }) (S.Solver.calls solver.old) (record { branches = branches.now; weights = weights.now; values = values.new; column = column.new; grid = grid.new }) (S.Solver.calls solver.new) result }
+        ensures settles { SettlesBy K.Semiring.algebra
+            self (slices script.entry space.old) (S.Solver.calls solver.old)
+            (slices script.entry space.new) (S.Solver.calls solver.new)
+            result }
+        ensures lent { SameLent space.old space.new }
     {
-        let n = self.n;
-        let held = self.held;
-        let rounds = self.rounds;
-        if let Err(refusal) = ready(n, held, branches, weights, values, column, grid) {
+        let size = self.progress.size;
+        if let Err(refusal) = ready_in(size, script, space) {
             return Err((self, refusal));
         }
-        let (made, solved) = make_rounds(
-            solver, n, held, rounds, branches, weights, values, column, grid,
-        );
-        clear(n, column);
-        clear(n * n, grid);
-        if !solved {
-            let work = Work {
-                n,
-                held,
-                rounds: made,
-            };
-            return Err((work, Refusal::Rounds));
-        }
-        Ok(Settled {
-            n,
-            held,
-            rounds: made,
-        })
+        let end = self.make_rounds(solver, script, space);
+        space.clear(size.n);
+        self.settled_if(end)
     }
 
-    // Takes a sheet whose values solve the equations to settled.
+    // The questions of close, in order.
+    fn may_close<K: Semiring>(
+        &self,
+        script: Script<'_, K>,
+        values: &[K],
+        column: &[K],
+        grid: &[K],
+    ) -> Result<(), Refusal>
+        ensures { Asked (close_questions K.algebra self.now
+            (beside script.entry values.now column.now grid.now)) result }
+    {
+        let size = self.progress.size;
+        ready(size, script, values, column, grid)?;
+        if !solved(size, script, values) {
+            return Err(Refusal::Unsolved);
+        }
+        Ok(())
+    }
+
+    // Takes a sheet whose values solve the equations to settled. The slices are only read, so no
+    // space is asked for.
     pub fn close<K: Semiring>(
         self,
-        branches: &[Branch],
-        weights: &[K],
+        script: Script<'_, K>,
         values: &[K],
         column: &[K],
         grid: &[K],
     ) -> Result<Settled, (Work, Refusal)>
-        ensures { Closed K.algebra self (record { branches = branches.now; weights = weights.now; values = values.now; column = column.now; grid = grid.now }) result }
+        ensures { Closed K.algebra self
+            (beside script.entry values.now column.now grid.now) result }
     {
-        let n = self.n;
-        let held = self.held;
-        let rounds = self.rounds;
-        if let Err(refusal) = ready(n, held, branches, weights, values, column, grid) {
-            return Err((self, refusal));
-        }
-        if !solves(n, held, branches, weights, values) {
-            return Err((self, Refusal::Unsolved));
-        }
-        Ok(Settled { n, held, rounds })
+        let asked = self.may_close(script, values, column, grid);
+        self.settled_if(asked)
     }
 
     // How many rounds have been made.
     pub fn rounds(&self) -> usize
-        ensures { result ≡ self.now.rounds }
+        ensures { result ≡ self.now.progress.rounds }
     {
-        let Work { rounds, .. } = self;
-        *rounds
+        self.progress.rounds
     }
 }

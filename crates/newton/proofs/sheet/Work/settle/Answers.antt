@@ -1,38 +1,18 @@
-use Rattle.std.proofs.Common.{refl, inr}
-use Rattle.newton.specs.Working.{SlicesOf, LeavesOff}
-use Rattle.newton.proofs.Settling.{left_off}
-use Rattle.newton.proofs.sheet.Work.settle.Given as given
+use Rattle.std.proofs.Common.{[], refl, sym, subst}
+use Rattle.newton.specs.Slices.{beside, slices}
+use Rattle.newton.specs.Working.{RoundsEnd}
+use Rattle.newton.proofs.Settling.{left_off, settles}
 use Rattle.newton.proofs.sheet.Work.settle.Goals as goal
-use Rattle.newton.proofs.sheet.Work.settle.Goals.{After-clear-2}
 
--- what is left behind the rounds, however settle ends
-left :
-    (g : given.Over) (c : After-clear-2 g) →
-    LeavesOff g.K.Semiring.algebra c.args.self.n c.args.self.held c.args.self.rounds (record { branches = c.args.branches.now; weights = c.args.weights.now; values = c.args.values.now; column = c.args.column.now; grid = c.args.grid.now }) (g.S.Solver.calls c.args.solver.now) c.make_rounds-made.result.0 (record { branches = c.args.branches.now; weights = c.args.weights.now; values = c.make_rounds-made.new.values; column = c.clear.new.items; grid = c.clear-2.new.items }) (g.S.Solver.calls c.make_rounds-made.new.solver)
-left g c =
-    let last : SlicesOf g.row.K.Denot = record { branches = c.args.branches.now; weights = c.args.weights.now; values = c.make_rounds-made.new.values; column = c.make_rounds-made.new.column; grid = c.make_rounds-made.new.grid } in
-    left_off g.K.Semiring.algebra c.args.self.n c.args.self.held c.args.self.rounds (g.S.Solver.calls c.args.solver.now) c.make_rounds-made.result.0 (g.S.Solver.calls c.make_rounds-made.new.solver) _ last c.clear.new.items c.clear-2.new.items refl refl c.make_rounds-made.ensures.rounds c.clear.ensures c.clear-2.ensures
-
-pub returns-then-not-solved : goal.returns-then-not-solved
-returns-then-not-solved g c =
-    let due = c.make_rounds-made.ensures.due c.if-not-solved.true in
-    inr (
-      refl,
-      record {
-        asked = c.in_default.ensures;
-        n = refl;
-        held = refl;
-        left = left g (goal.at.returns-then-not-solved g c).After-clear-2;
-        due = due.0;
-        all = due.1;
-      },
-    )
-
-pub returns : goal.returns
-returns g c = record {
-  asked = c.in_default.ensures;
-  n = refl;
-  held = refl;
-  left = left g (goal.at.returns g c).After-clear-2;
-  solved = c.make_rounds-made.ensures.solved c.if-not-solved.false;
-}
+pub returns-clause-settles : goal.returns-clause-settles
+returns-clause-settles g c =
+    let k = g.K.Semiring.algebra in
+    let calls = g.S.Solver.calls in
+    let before = c.args.self.progress in
+    let made = c.make_rounds-end in
+    let w = made.new.self in
+    let s = slices c.args.script c.args.space.now in
+    let last = slices c.args.script made.new.space in
+    let after = slices c.args.script c.clear.new.self in
+    let told = c.clear.ensures in
+    settles k c.args.self w s after (calls c.args.solver.now) (calls made.new.solver) made.result c.settled_if.result c.in_default.ensures made.ensures.size (left_off k before.size before.rounds (calls c.args.solver.now) w.progress.rounds (calls made.new.solver) s last after refl refl made.ensures.rounds told.values told.column told.grid) (subst (λ vs. RoundsEnd k before.size w.progress.rounds (beside c.args.script vs [] []) made.result) (sym told.values) made.ensures.end) c.settled_if.ensures.ok c.settled_if.ensures.err

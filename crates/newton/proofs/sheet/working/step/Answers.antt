@@ -1,18 +1,13 @@
-use Rattle.newton.specs.Working.{SlicesOf}
+use Rattle.linear.specs.System.{entry_at}
+use Rattle.newton.specs.Slices.{beside}
+use Rattle.newton.proofs.Ruled.{imaged, sloped}
 use Rattle.newton.proofs.Stepping.{stepped}
 use Rattle.newton.proofs.sheet.working.step.Goals as goal
 
-pub returns : goal.returns
-returns g c =
+pub returns-clause-step : goal.returns-clause-step
+returns-clause-step g c =
     let k = g.K.Semiring.algebra in
-    let s : SlicesOf g.row.K.Denot = record {
-      branches = c.args.branches.now;
-      weights = c.args.weights.now;
-      values = c.args.values.now;
-      column = c.args.column.now;
-      grid = c.args.grid.now;
-    } in
-    record {
-      step = stepped k c.args.n c.args.held s c.requires.room.0 c.image.new.column c.slopes.new.grid c.solve.new.column c.solve.new.grid c.copy.new.to c.clear.new.items c.clear-2.new.items _ _ c.image.ensures c.slopes.ensures c.solve.ensures c.copy.ensures c.clear.ensures c.clear-2.ensures;
-      calls = c.solve.ensures.count;
-    }
+    let n = c.args.size.n in
+    let v = entry_at k c.args.values.now in
+    let same = c.rules-rules.ensures in
+    stepped k c.args.size (beside c.args.script c.args.values.now c.args.column.now c.args.grid.now) c.requires.values c.image.new.column c.slopes.new.grid c.solve.new.column c.solve.new.grid c.take_over.new.values c.take_over.new.column c.take_over.new.grid _ _ (imaged k same v n c.args.column.now c.image.new.column c.image.ensures) (sloped k same v n c.args.grid.now c.slopes.new.grid c.slopes.ensures) c.solve.ensures c.take_over.ensures.values c.take_over.ensures.column c.take_over.ensures.grid

@@ -1,0 +1,15 @@
+use Rattle.std.proofs.Common.{refl, ◌∙◌}
+use Rattle.newton.proofs.Ruled.{imaged}
+use Rattle.newton.proofs.sheet.Draft.start.Goals as goal
+
+pub returns-clause-starts : goal.returns-clause-starts
+returns-clause-starts g c =
+    let k = g.K.Semiring.algebra in
+    let told = c.clear.ensures in
+    record {
+      asked = c.in_default.ensures;
+      size = c.new.ensures.size;
+      rounds = c.new.ensures.rounds;
+      values = told.values ∙ imaged k c.rules.ensures (λ r. k.zero) c.args.self.size.n c.args.space.now.values.now c.image.new.column c.image.ensures;
+      cleared = record { branches = refl; weights = refl; column = told.column; grid = told.grid };
+    }
