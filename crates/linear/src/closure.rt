@@ -74,4 +74,5 @@ impl Method for Closing {
     }
 }
 
+// Closure, with the count of systems that it has solved.
 pub type Closure = Counting<Closing>;

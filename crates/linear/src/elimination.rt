@@ -78,4 +78,5 @@ impl Method for Eliminating {
     }
 }
 
+// Elimination, with the count of systems that it has solved.
 pub type Elimination = Counting<Eliminating>;
