@@ -23,7 +23,7 @@ fn called<K: Semiring>(values: &[K], calls: &[u8]) -> K
     ensures { result ≡ called K.algebra (entry_at K.algebra values.now) calls.now }
 {
     calls.iter().fold(K::one(), |all, call| {
-        all.product(value_at(values, *call as usize))
+        all.product(value_at(values, usize::from(*call)))
     })
 }
 
@@ -35,8 +35,8 @@ fn others<K: Semiring>(values: &[K], q: usize, calls: &[u8]) -> K
     match calls {
         [] => K::zero(),
         [first, rest @ ..] => {
-            let later = value_at(values, *first as usize).product(others(values, q, rest));
-            if *first as usize == q {
+            let later = value_at(values, usize::from(*first)).product(others(values, q, rest));
+            if usize::from(*first) == q {
                 called(values, rest).sum(later)
             } else {
                 later

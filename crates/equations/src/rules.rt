@@ -43,7 +43,7 @@ impl<'a, K: Semiring> Rules<'a, K> {
     {
         let mut all = K::zero();
         for (branch, weight) in self.branches.iter().zip(self.weights) {
-            if branch.routine as usize == r {
+            if usize::from(branch.routine) == r {
                 all = all.sum(weight.product(worth(branch.counted_calls())));
             }
         }

@@ -33,7 +33,7 @@ fn raised(n: usize, numbers: &[u8]) -> usize
 {
     numbers
         .iter()
-        .fold(n, |top, number| top.max(*number as usize + 1))
+        .fold(n, |top, number| top.max(usize::from(*number) + 1))
 }
 
 // Moves what stands behind a place, up to the last one, down one place.
