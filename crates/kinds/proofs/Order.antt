@@ -1,5 +1,5 @@
 -- Of two weights the smaller and the larger in the derived orders are the formulas' sums and products.
-use Rattle.std.proofs.Common.{◌≡◌, ℕ, cond, ap, refl, arith}
+use Rattle.std.proofs.Common.{◌≡◌, ℕ, Bool, true, false, cond, ap, refl, arith}
 use Rattle.std.proofs.lemmas.Bool.{cond_both}
 use Rattle.std.proofs.lemmas.Bool.Decides.{nat_tests}
 use Rattle.std.specs.Ordering.{is_lt, nat_cmp, ord_min, ord_max}
@@ -18,17 +18,18 @@ use Rattle.kinds.specs.contracts.weights.LeastOrd.TheImpl as least_order
 use Rattle.kinds.specs.contracts.weights.LightOrd.TheImpl as light_order
 use Rattle.kinds.specs.contracts.weights.MostOrd.TheImpl as most_order
 
--- the same of bounded numbers, inside a weight
+-- a choice of two weights is the weight whose number it has
+picked : {top : ℕ} {X : Type 0} (weight : Bounded top → X) (t : Bool) (x y z : Bounded top) → (t ≡ true → x.value ≡ z.value) → (t ≡ false → y.value ≡ z.value)
+    → cond t (weight x) (weight y) ≡ weight z
+picked weight t x y z then other =
+    cond_both t (weight x) (weight y) (λ w. w ≡ weight z) (λ e. ap weight (alike x z (then e))) (λ e. ap weight (alike y z (other e)))
+
 module _ {top : ℕ} {X : Type 0} (weight : Bounded top → X) (a b : Bounded top) where
   lesser : cond (is_lt (nat_cmp b.value a.value)) (weight b) (weight a) ≡ weight (smaller a b)
-  lesser =
-      cond_both (is_lt (nat_cmp b.value a.value)) (weight b) (weight a) (λ w. w ≡ weight (smaller a b))
-      (λ e. ap weight (alike _ _ (grind (arith, nat_tests, e)))) (λ e. ap weight (alike _ _ (grind (arith, nat_tests, e))))
+  lesser = picked weight _ b a (smaller a b) (λ e. grind (arith, nat_tests, e)) (λ e. grind (arith, nat_tests, e))
 
   greater : cond (is_lt (nat_cmp b.value a.value)) (weight a) (weight b) ≡ weight (larger a b)
-  greater =
-      cond_both (is_lt (nat_cmp b.value a.value)) (weight a) (weight b) (λ w. w ≡ weight (larger a b))
-      (λ e. ap weight (alike _ _ (grind (arith, nat_tests, e)))) (λ e. ap weight (alike _ _ (grind (arith, nat_tests, e))))
+  greater = picked weight _ a b (larger a b) (λ e. grind (arith, nat_tests, e)) (λ e. grind (arith, nat_tests, e))
 
 pub least_min : (a b : Least) → ord_min (least_order.ghosts).cmp a b ≡ Least.plus a b
 least_min least.Never least.Never = refl

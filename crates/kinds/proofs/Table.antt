@@ -14,7 +14,8 @@ use Rattle.kinds.specs.declared.weights.Disc.{Disc}
 use Rattle.kinds.specs.declared.weights.Multiples.{Multiples}
 use Rattle.kinds.specs.Disc.{has, divides, greatest, divisor, entry, table}
 use Rattle.kinds.specs.Laws.Bits.{bit, bits_same, bits_of_below, bit-bit_or, bit_of}
-use Rattle.kinds.specs.Laws.Disc.{has_bit, both_ways}
+use Rattle.std.specs.Cmp.{both_ways}
+use Rattle.kinds.specs.Laws.Disc.{has_bit}
 use Rattle.kinds.specs.Laws.Star.{astray, each_gives, gives_each}
 
 -- an entry has all stations of d

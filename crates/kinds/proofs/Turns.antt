@@ -1,12 +1,14 @@
 -- The product, one station of the first set after the other.
 use Rattle.std.proofs.Common.{◌≡◌, ℕ, ◌+◌, ◌-◌, ◌%◌, ◌<◌, Bool, true, false, ◌&&◌, ◌||◌, eqb, sym, refl, ap, ◌∙◌, ap₂, add-one, arith}
 use mathlib.Core.Path.{fun_ext}
+use Rattle.std.proofs.Math.Bool.{or_comm}
+use Rattle.std.specs.Cmp.{both_ways}
 use Rattle.std.proofs.lemmas.Bool.{false≢true, and_parts, and_from, eqb-true, eq-eqb}
 use Rattle.kinds.specs.Bits.{any}
 use Rattle.kinds.specs.declared.weights.Disc.{Disc}
 use Rattle.kinds.specs.Disc.{has, stations, zero, plus, turned}
 use Rattle.kinds.specs.Laws.Bits.{any_gives, gives_any}
-use Rattle.kinds.specs.Laws.Disc.{same_stations, has_stations, has_plus, or_comm, both_ways}
+use Rattle.kinds.specs.Laws.Disc.{same_stations, has_stations, has_plus}
 
 -- t is (s + u) mod 24 of some u of b, where s is a station of a
 abbrev from : Disc → Disc → ℕ → ℕ → Bool

@@ -3,7 +3,7 @@ use Rattle.std.specs.Prelude.{◌≡◌, ℕ, zero, suc, ◌+◌, ◌*◌, ◌/�
 use Rattle.std.proofs.Common.{sym, ap, ◌∙◌, inl, inr, pow-suc, arith, shr-shr}
 use Rattle.std.proofs.lemmas.Nat.{shl-shr, or_shr}
 use Rattle.std.specs.Int.Bits.{bit_or, or_step, block_half, block_odd}
-use Rattle.std.proofs.lemmas.Bool.{false≢true, or_cases, or_left, or_right, cases_eq, cases_Bool, not-true, not_from_false}
+use Rattle.std.proofs.lemmas.Bool.{false≢true, or_cases, or_left, or_right, cases_eq, true_from_ne_false, not-true, not_from_false}
 use Rattle.kinds.specs.Bits.{bits_of, any}
 
 -- the bit 2^t of n, 0 or 1
@@ -87,8 +87,5 @@ all n p = not (any n (λ k. not (p k)))
 
 pub all_gives : (n : ℕ) (p : ℕ → Bool) → all n p ≡ true → (k : ℕ) → k < n → p k ≡ true
 unfolding all
-all_gives n p e k h = go (cases_Bool (p k))
-  where
-    go : (p k ≡ true) ⊎ (p k ≡ false) → p k ≡ true
-    go (inl y) = y
-    go (inr f) = absurd (false≢true (sym (not-true (any n (λ k. not (p k))) e) ∙ gives_any n (λ k. not (p k)) k h (not_from_false (p k) f)))
+all_gives n p e k h =
+    true_from_ne_false (p k) (λ f. false≢true (sym (not-true (any n (λ k. not (p k))) e) ∙ gives_any n (λ k. not (p k)) k h (not_from_false (p k) f)))

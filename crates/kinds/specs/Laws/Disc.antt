@@ -2,8 +2,10 @@
 use Rattle.std.specs.Prelude.{◌≡◌, ℕ, suc, ◌+◌, ◌%◌, ◌^◌, ◌<◌, Bool, true, false, cond, ◌&&◌, ◌||◌, ◌⊎◌, ◌==◌, ◌≢◌, nat_eq, refl}
 use Rattle.std.proofs.Common.{sym, ap, subst, ◌∙◌, inl, inr, arith}
 use mathlib.Core.HLevel.{is_prop→PathP}
+use Rattle.std.proofs.Math.Bool.{or_assoc, or_comm, or_self}
 use Rattle.std.proofs.Math.Bridge.{le_prop}
 use Rattle.std.proofs.lemmas.Bool.{false≢true, or_cases, or_left, or_right, cases_eq, and_parts, and_from, eqb-true, eq-eqb, ne_eqb}
+use Rattle.std.specs.Cmp.{both_ways}
 use Rattle.kinds.specs.Bits.{any}
 use Rattle.kinds.specs.declared.weights.Disc.{Disc}
 use Rattle.kinds.specs.Disc.{has, stations, zero, one, plus, meets, times}
@@ -37,31 +39,12 @@ same_stations a b same =
 abbrev pub Within : Disc → Disc → Type 0
 Within a b = (t : ℕ) → t < 24 → has a t ≡ true → has b t ≡ true
 
-pub both_ways : (x y : Bool) → (x ≡ true → y ≡ true) → (y ≡ true → x ≡ true) → x ≡ y
-both_ways true y f g = sym (f refl)
-both_ways false true f g = g refl
-both_ways false false f g = refl
-
 pub equal : (a b : Disc) → Within a b → Within b a → a ≡ b
 equal a b f g = same_stations a b (λ t h. both_ways (has a t) (has b t) (f t h) (g t h))
 
 -- the sum, by stations
 pub has_plus : (a b : Disc) (t : ℕ) → t < 24 → has (plus a b) t ≡ (has a t || has b t)
 has_plus a b t h = has_stations (λ t. has a t || has b t) t h
-
-or_assoc : (a b c : Bool) → ((a || b) || c) ≡ (a || (b || c))
-or_assoc true b c = refl
-or_assoc false b c = refl
-
-pub or_comm : (a b : Bool) → (a || b) ≡ (b || a)
-or_comm true true = refl
-or_comm true false = refl
-or_comm false true = refl
-or_comm false false = refl
-
-or_idem : (a : Bool) → (a || a) ≡ a
-or_idem true = refl
-or_idem false = refl
 
 pub plus_assoc : (a b c : Disc) → plus (plus a b) c ≡ plus a (plus b c)
 plus_assoc a b c =
@@ -72,7 +55,7 @@ pub plus_comm : (a b : Disc) → plus a b ≡ plus b a
 plus_comm a b = same_stations _ _ (λ t h. has_plus a b t h ∙ or_comm (has a t) (has b t) ∙ sym (has_plus b a t h))
 
 pub plus_idem : (a : Disc) → plus a a ≡ a
-plus_idem a = same_stations _ _ (λ t h. has_plus a a t h ∙ or_idem (has a t))
+plus_idem a = same_stations _ _ (λ t h. has_plus a a t h ∙ or_self (has a t))
 
 pub plus_zero : (a : Disc) → plus a zero ≡ a
 plus_zero a =

@@ -3,7 +3,7 @@
 use Rattle.std.specs.Prelude.{◌≡◌, ℕ, zero as none, suc, ◌+◌, ◌-◌, ◌*◌, ◌%◌, ◌<◌, ◌≤◌, max, Bool, true, false, cond, not, ◌&&◌, ◌⊎◌, ◌==◌, ◌≢◌, nat_eq, refl}
 use Rattle.std.proofs.Common.{sym, ap, subst, ◌∙◌, inl, inr, suc-mul, mul-add, arith}
 use Rattle.std.proofs.Math.Nat.{zero-mod, mod_self, add-mod, dvd_of_mod-eq-zero, mod-mod_of_dvd, le_of_dvd, mod-zero}
-use Rattle.std.proofs.lemmas.Bool.{false≢true, cases_eq, cases_Bool, and_parts, and_from, not-true, not_from_false, eqb-true, eq-eqb}
+use Rattle.std.proofs.lemmas.Bool.{false≢true, cases_eq, cases_Bool, true_from_ne_false, false_from_ne_true, and_parts, and_from, not-true, not_from_false, eqb-true, eq-eqb}
 use Rattle.semiring.specs.Algebra.{Algebra, Laws, power, powers}
 use Rattle.kinds.specs.Bits.{any}
 use Rattle.kinds.specs.declared.weights.Disc.{Disc}
@@ -30,23 +30,16 @@ abbrev pub astray : Disc → ℕ → Bool
 astray d g = any 24 (λ s. has d s && not (s % g == 0))
 
 pub each_gives : (d : Disc) (g : ℕ) → ((s : ℕ) → s < 24 → has d s ≡ true → s % g ≡ 0) → not (astray d g) ≡ true
-each_gives d g each = go (cases_Bool (astray d g))
-  where
-    go : (astray d g ≡ true) ⊎ (astray d g ≡ false) → not (astray d g) ≡ true
-    go (inl y) =
-        let (s, h, e) = any_gives 24 (λ s. has d s && not (s % g == 0)) y in
-        let (there, off) = and_parts (has d s) (not (s % g == 0)) e in
-        absurd (false≢true (sym (not-true (s % g == 0) off) ∙ eq-eqb _ _ (each s h there)))
-    go (inr f) = not_from_false _ f
+each_gives d g each =
+    not_from_false _ (false_from_ne_true _ (λ y.
+    let (s, h, e) = any_gives 24 (λ s. has d s && not (s % g == 0)) y in
+    let (there, off) = and_parts (has d s) (not (s % g == 0)) e in
+    false≢true (sym (not-true (s % g == 0) off) ∙ eq-eqb _ _ (each s h there))))
 
 pub gives_each : (d : Disc) (g : ℕ) → not (astray d g) ≡ true → (s : ℕ) → s < 24 → has d s ≡ true → s % g ≡ 0
-gives_each d g e s h there = eqb-true _ _ (go (cases_Bool (s % g == 0)))
-  where
-    go : ((s % g == 0) ≡ true) ⊎ ((s % g == 0) ≡ false) → (s % g == 0) ≡ true
-    go (inl y) = y
-    go (inr f) =
-        absurd (false≢true (sym (not-true _ e)
-        ∙ gives_any 24 (λ s. has d s && not (s % g == 0)) s h (and_from (has d s) (not (s % g == 0)) there (not_from_false _ f))))
+gives_each d g e s h there =
+    eqb-true _ _ (true_from_ne_false _ (λ f. false≢true (sym (not-true _ e)
+    ∙ gives_any 24 (λ s. has d s && not (s % g == 0)) s h (and_from (has d s) (not (s % g == 0)) there (not_from_false _ f)))))
 
 common_gives : (d : Disc) (g : ℕ) → Common d g → divides d g ≡ true
 common_gives d g c = and_from (24 % g == 0) (not (astray d g)) (eq-eqb _ _ c.whole) (each_gives d g c.each)
