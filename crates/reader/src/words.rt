@@ -84,8 +84,7 @@ pub(crate) fn number(word: &[u8], most: u16) -> Option<u16>
         (λ n. (in_range most word.now ≡ true) × (n ≡ value word.now)) }
 {
     match word {
-        [] => None,
-        [b'0', _, ..] => None,
+        [] | [b'0', _, ..] => None,
         _ => digits(word, most),
     }
 }

@@ -37,7 +37,7 @@ impl<'a> Row<'a> {
 }
 
 // Numbers the names of a calls word from the left; none where there would be more than 32 names.
-// Kept: that names grow is a clause of each function that meets them; no type speaks of two moments.
+// Kept: that names grow is a clause of each that meets them; no type compares two moments.
 fn number_names<'a>(names: &mut Names<'a>, word: &'a [u8]) -> Option<Calls>
     requires { are_names 4 (pieces PLUS word.now) ≡ true }
     ensures numbered { Numbers (known names.old) (pieces PLUS word.now) result (known names.new) }
