@@ -6,6 +6,7 @@ use script::branch::Branch;
 use semiring::Semiring;
 
 // Rule i is branch i with weight i.
+// Kept: two slices, since every kind has weights of its own for the one table of branches.
 #[derive(Drop)]
 pub struct Rules<'a, K> {
     branches: &'a [Branch],

@@ -9,6 +9,7 @@ pub enum Refusal {
 }
 
 impl Refusal {
+    // Kept: one line for each list, which a trait or a `From` over the lists would have too.
     pub fn number(self) -> u8
         ensures { result ≡ refusal_number self }
     {

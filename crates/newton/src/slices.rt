@@ -9,6 +9,7 @@ use script::branch::Branch;
 use semiring::Semiring;
 
 // The branches of a sheet, and what each weighs.
+// Kept: two slices, since every kind has weights of its own for the one table of branches.
 #[derive(Clone, Copy)]
 pub struct Script<'a, K> {
     pub branches: &'a [Branch],

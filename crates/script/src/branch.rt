@@ -6,6 +6,7 @@ use crate::place::Place;
 // A plain record. A table can hand in any, so each field may lie outside the range that a script
 // allows: routine and calls 0 to 31, count 0 to 4, seconds 0 to 3,600, turn 0 to 23. Of the four
 // call places the first `count` are meant, repeats allowed.
+// Kept: a count beside its places is the record's layout, and a sheet has to refuse a count past 4.
 #[derive(Clone, Copy, Debug)]
 pub struct Branch {
     pub routine: u8,

@@ -114,6 +114,7 @@ impl Draft {
         ensures lent { SameLent space.old space.new }
     {
         let size = self.size;
+        // Kept: the sheet goes back beside the refusal, and `?` with `map_err` would take it always.
         if let Err(refusal) = ready_in(size, script, space) {
             return Err((self, refusal));
         }
@@ -301,6 +302,7 @@ impl Work {
         ensures lent { SameLent space.old space.new }
     {
         let size = self.progress.size;
+        // Kept: the sheet goes back beside the refusal, and `?` with `map_err` would take it always.
         if let Err(refusal) = ready_in(size, script, space) {
             return Err((self, refusal));
         }

@@ -21,6 +21,7 @@ pub enum ReaderRefusal {
 }
 
 impl ReaderRefusal {
+    // Kept: one line for each list, which a trait or a `From` over the lists would have too.
     pub fn number(self) -> u8
         ensures { result ≡ reader_number self }
     {

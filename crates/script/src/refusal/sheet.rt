@@ -29,6 +29,7 @@ pub enum SheetRefusal {
 }
 
 impl SheetRefusal {
+    // Kept: one line for each list, which a trait or a `From` over the lists would have too.
     pub fn number(self) -> u8
         ensures { result ≡ sheet_number self }
     {
