@@ -24,6 +24,7 @@ module _ {K : Type 0} where
     pub grid : s'.grid.now ≡ s.grid.now
 
 module _ {K : Type 0} (k : Algebra K) where
+  -- The weights of the grid and the values of the column, each by its place.
   abbrev pub cells_of : System K → ℕ → ℕ → K
   cells_of s = cell k s.n s.grid.now
 
