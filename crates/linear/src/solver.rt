@@ -18,7 +18,9 @@ pub trait Solver {
         grid: &mut [K],
         column: &mut [K],
     ) -> Result<(), Refusal>
-        ensures { Solved K.Semiring.algebra n (calls self.old) grid.old column.old (calls self.new) grid.new column.new result };
+        ensures { Solved K.Semiring.algebra n
+            (calls self.old) grid.old column.old
+            (calls self.new) grid.new column.new result };
 
     fn count(&self) -> u32
         ensures { result ≡ calls self.now };

@@ -11,5 +11,6 @@ pub trait Weighing: Semiring {
 
     fn weigh(branch: &Branch) -> Self
         ensures value { result ≡ weight branch.now }
-        ensures alone { result ≡ Self.Semiring.algebra.times (weight branch.now) Self.Semiring.algebra.one };
+        ensures alone { let k = Self.Semiring.algebra in
+            result ≡ k.times (weight branch.now) k.one };
 }

@@ -114,7 +114,7 @@ impl Draft {
         ensures lent { SameLent space.old space.new }
     {
         let size = self.size;
-        // Kept: the sheet goes back beside the refusal, and `?` with `map_err` would take it always.
+        // Kept: the sheet goes back beside the refusal; `?` with `map_err` would take it anyway.
         if let Err(refusal) = ready_in(size, script, space) {
             return Err((self, refusal));
         }
@@ -302,7 +302,7 @@ impl Work {
         ensures lent { SameLent space.old space.new }
     {
         let size = self.progress.size;
-        // Kept: the sheet goes back beside the refusal, and `?` with `map_err` would take it always.
+        // Kept: the sheet goes back beside the refusal; `?` with `map_err` would take it anyway.
         if let Err(refusal) = ready_in(size, script, space) {
             return Err((self, refusal));
         }
