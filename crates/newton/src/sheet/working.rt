@@ -3,9 +3,9 @@ ghost use Rattle.std.specs.Prelude.{◌≡◌, ◌<◌, ◌≤◌, ◌↔◌, []
 ghost use Rattle.equations.specs.Held.{no_branch, written};
 ghost use Rattle.linear.specs.Solved.{Fits, Accepted, one_more};
 ghost use Rattle.linear.specs.System.{entry_at};
-ghost use Rattle.newton.specs.Questions.{Asked};
+ghost use Rattle.newton.specs.Questions.{Asked, Refused};
 ghost use Rattle.newton.specs.Slices.{beside, slices, SameLent};
-ghost use Rattle.newton.specs.Working.{Sound, AllSound, HasRoom, slice_questions, due_questions, close_questions, Started, Climbed, Closed, Lifts, NewtonStep, GoesOn, SolvedBy, Rounded, RoundsOn, RoundsEnd, SettlesBy};
+ghost use Rattle.newton.specs.Working.{Starts, Sound, AllSound, HasRoom, slice_questions, due_questions, close_questions, Started, Climbed, Closed, Lifts, NewtonStep, GoesOn, SolvedBy, Rounded, RoundsOn, RoundsEnd, SettlesBy};
 
 use super::drafting::names_below;
 use super::{Draft, Progress, Settled, Size, Work};
@@ -103,6 +103,28 @@ fn due<K: Semiring>(
 }
 
 impl Draft {
+    // The sheet at work, if the slices allow it.
+    fn started<K: Semiring>(
+        &self,
+        script: Script<'_, K>,
+        space: &mut Space<'_, '_, '_, K>,
+    ) -> Result<Work, Refusal>
+        ensures ok { IfOk result (λ work. Starts K.algebra self.now
+            (slices script.entry space.old) work (slices script.entry space.new)) }
+        ensures err { IfErr result (λ why. Refused
+            (slice_questions K.algebra self.now.size (slices script.entry space.old)) why
+            × (slices script.entry space.new ≡ slices script.entry space.old)) }
+        ensures lent { SameLent space.old space.new }
+    {
+        let size = self.size;
+        ready_in(size, script, space)?;
+        script.rules(size.held).image(size.n, &[], space.values);
+        space.clear(size.n);
+        Ok(Work {
+            progress: Progress::new(size),
+        })
+    }
+
     // Takes a draft to work: the values are f of all zeros.
     pub fn start<K: Semiring>(
         self,
@@ -113,16 +135,8 @@ impl Draft {
             (slices script.entry space.old) (slices script.entry space.new) result }
         ensures lent { SameLent space.old space.new }
     {
-        let size = self.size;
-        // Kept: the sheet goes back beside the refusal; `?` with `map_err` would take it anyway.
-        if let Err(refusal) = ready_in(size, script, space) {
-            return Err((self, refusal));
-        }
-        script.rules(size.held).image(size.n, &[], space.values);
-        space.clear(size.n);
-        Ok(Work {
-            progress: Progress::new(size),
-        })
+        self.started(script, space)
+            .map_err(|refusal| (self, refusal))
     }
 }
 
