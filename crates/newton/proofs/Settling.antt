@@ -1,6 +1,7 @@
 -- What rounds leave of the places that they do not name.
 use Rattle.std.proofs.Common.{◌≡◌, ℕ, zero, suc, ◌*◌, ◌++◌, length, drop, ap, ◌∙◌, subst, sym, arith, inr, Ok, Err, Result}
-use Rattle.std.specs.Prelude.{IsOk, IfOk, IfErr}
+use Rattle.std.specs.Prelude.{IfOk, IfErr}
+use Rattle.std.specs.Result.{result_and}
 use Rattle.semiring.specs.Algebra.{Algebra}
 use Rattle.linear.specs.Solved.{one_more}
 use Rattle.equations.specs.Held.{table, written}
@@ -10,7 +11,7 @@ use Rattle.newton.specs.declared.sheet.Work.{Work}
 use Rattle.newton.specs.declared.sheet.Settled.{Settled}
 use Rattle.script.specs.declared.refusal.sheet.SheetRefusal.{SheetRefusal as Refusal}
 use Rattle.newton.specs.Questions.{Passed}
-use Rattle.newton.specs.Working.{HasRoom, slice_questions, RoundsEnd, Stops, SettlesBy, SolvedBy, NewtonStep, Counts, Made, RoundsOn, LeavesOff}
+use Rattle.newton.specs.Working.{HasRoom, slice_questions, RoundsEnd, SettlesBy, SolvedBy, NewtonStep, Counts, Made, RoundsOn, LeavesOff}
 use Rattle.newton.proofs.Written.{written_tail, written_size}
 
 module _ {K : Type 0} (k : Algebra K) (size : Size) where
@@ -75,27 +76,15 @@ module _ {K : Type 0} (k : Algebra K) (size : Size) where
   }
 
 -- settle, from what the rounds leave and how they end
-pub settles :
-    {K : Type 0} (k : Algebra K) (w w' : Work) (s s' : SlicesOf K) (calls calls' : ℕ) (end : Result (Unit {0}) Refusal) (r : Result Settled (Work × Refusal)) →
-    Passed (slice_questions k w.progress.size s) →
-    w'.progress.size ≡ w.progress.size →
-    LeavesOff k w.progress.size w.progress.rounds s calls w'.progress.rounds s' calls' →
-    RoundsEnd k w.progress.size w'.progress.rounds s' end →
-    IfOk r (λ f. (f.progress ≡ w'.progress) × IsOk end) →
-    IfErr r (λ e. (e.0 ≡ w') × (end ≡ Err e.1)) →
-    SettlesBy k w s calls s' calls' r
-settles k w w' s s' calls calls' (Ok done) (Ok f) asked same left solved ok err = record {
-  asked = asked;
-  size = ap (λ p. p.size) ok.0 ∙ same;
-  left = subst (λ p. LeavesOff k w.progress.size w.progress.rounds s calls p.rounds s' calls') (sym ok.0) left;
-  solved = solved;
-}
-settles k w w' s s' calls calls' (Ok done) (Err e) asked same left solved ok err = let never = err.1 in cc
-settles k w w' s s' calls calls' (Err why) (Ok f) asked same left ended ok err = let never = ok.1 in cc
-settles k w w' s s' calls calls' (Err why) (Err e) asked same left ended ok err =
-    let same_why = err.1 in
-    inr (
-      cc,
-      subst (λ v. Stops k w s calls v s' calls') (sym err.0)
-          (record { asked = asked; size = same; left = left; due = ended.1; all = ended.2 }),
-    )
+module _ {K : Type 0} (k : Algebra K) (w w' : Work) (s s' : SlicesOf K) (calls calls' : ℕ) (asked : Passed (slice_questions k w.progress.size s)) (same : w'.progress.size ≡ w.progress.size) (left : LeavesOff k w.progress.size w.progress.rounds s calls w'.progress.rounds s' calls') where
+  abbrev Answers : Result Settled Refusal → Type 0
+  Answers r =
+      IfOk r (λ f. SettlesBy k w s calls s' calls' (Ok f)) × IfErr r (λ why. SettlesBy k w s calls s' calls' (Err (w', why)))
+
+  answers : (end : Result (Unit {0}) Refusal) → RoundsEnd k w.progress.size w'.progress.rounds s' end → Answers (result_and end (Ok (record { progress = w'.progress })))
+  answers (Ok done) solved = (record { asked = asked; size = same; left = left; solved = solved }, tt)
+  answers (Err why) ended =
+      (tt, inr (ended.0, record { asked = asked; size = same; left = left; due = ended.1; all = ended.2 }))
+
+  pub settles : (end : Result (Unit {0}) Refusal) (r : Result Settled Refusal) → RoundsEnd k w.progress.size w'.progress.rounds s' end → r ≡ result_and end (Ok (record { progress = w'.progress })) → Answers r
+  settles end r ended is = subst Answers (sym is) (answers end ended)

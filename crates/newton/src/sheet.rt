@@ -13,7 +13,7 @@ struct Size {
 }
 
 // How far a sheet has come: the rounds that it has made, at most one for each routine.
-#[derive(Drop)]
+#[derive(Clone, Copy)]
 struct Progress {
     size: Size,
     rounds: usize,

@@ -1,11 +1,11 @@
 // The calls of a sheet at work.
-ghost use Rattle.std.specs.Prelude.{◌≡◌, ◌<◌, ◌≤◌, ◌↔◌, [], length, IsTrue, IsOk, IfOk, IfErr};
+ghost use Rattle.std.specs.Prelude.{◌≡◌, ◌<◌, ◌≤◌, ◌↔◌, [], length, IsTrue, IfOk, IfErr, Ok, Err};
 ghost use Rattle.equations.specs.Held.{no_branch, written};
 ghost use Rattle.linear.specs.Solved.{Fits, Accepted, one_more};
 ghost use Rattle.linear.specs.System.{entry_at};
-ghost use Rattle.newton.specs.Questions.{Asked, Refused};
+ghost use Rattle.newton.specs.Questions.{Asked};
 ghost use Rattle.newton.specs.Slices.{beside, slices, SameLent};
-ghost use Rattle.newton.specs.Working.{Starts, Sound, AllSound, HasRoom, slice_questions, due_questions, close_questions, Started, Climbed, Closed, Lifts, NewtonStep, GoesOn, SolvedBy, Rounded, RoundsOn, RoundsEnd, SettlesBy};
+ghost use Rattle.newton.specs.Working.{Sound, AllSound, HasRoom, slice_questions, due_questions, close_questions, Started, Climbed, Closed, Lifts, NewtonStep, GoesOn, SolvedBy, Rounded, RoundsOn, RoundsEnd, SettlesBy};
 
 use super::drafting::names_below;
 use super::{Draft, Progress, Settled, Size, Work};
@@ -109,11 +109,11 @@ impl Draft {
         script: Script<'_, K>,
         space: &mut Space<'_, '_, '_, K>,
     ) -> Result<Work, Refusal>
-        ensures ok { IfOk result (λ work. Starts K.algebra self.now
-            (slices script.entry space.old) work (slices script.entry space.new)) }
-        ensures err { IfErr result (λ why. Refused
-            (slice_questions K.algebra self.now.size (slices script.entry space.old)) why
-            × (slices script.entry space.new ≡ slices script.entry space.old)) }
+        ensures ok { IfOk result (λ work. Started K.algebra self.now
+            (slices script.entry space.old) (slices script.entry space.new) (Ok work)) }
+        ensures err { IfErr result (λ why. Started K.algebra self.now
+            (slices script.entry space.old) (slices script.entry space.new)
+            (Err (self.now, why))) }
         ensures lent { SameLent space.old space.new }
     {
         let size = self.size;
@@ -289,17 +289,29 @@ impl Work {
         Ok(())
     }
 
-    // Settled, or handed back with what refuses that.
-    fn settled_if(self, end: Result<(), Refusal>) -> Result<Settled, (Work, Refusal)>
-        ensures ok { IfOk result (λ f. (f.progress ≡ self.progress) × IsOk end) }
-        ensures err { IfErr result (λ e. (e.0 ≡ self) × (end ≡ Err e.1)) }
+    // The settled sheet, once the values solve the equations.
+    fn settled<K: Semiring, S: Solver>(
+        &mut self,
+        solver: &mut S,
+        script: Script<'_, K>,
+        space: &mut Space<'_, '_, '_, K>,
+    ) -> Result<Settled, Refusal>
+        ensures ok { IfOk result (λ settled. SettlesBy K.Semiring.algebra
+            self.old (slices script.entry space.old) (S.Solver.calls solver.old)
+            (slices script.entry space.new) (S.Solver.calls solver.new)
+            (Ok settled)) }
+        ensures err { IfErr result (λ why. SettlesBy K.Semiring.algebra
+            self.old (slices script.entry space.old) (S.Solver.calls solver.old)
+            (slices script.entry space.new) (S.Solver.calls solver.new)
+            (Err (self.new, why))) }
+        ensures lent { SameLent space.old space.new }
     {
-        match end {
-            Ok(()) => Ok(Settled {
-                progress: self.progress,
-            }),
-            Err(refusal) => Err((self, refusal)),
-        }
+        let size = self.progress.size;
+        ready_in(size, script, space)?;
+        let end = self.make_rounds(solver, script, space);
+        space.clear(size.n);
+        let progress = self.progress;
+        end.and(Ok(Settled { progress }))
     }
 
     // Makes rounds as long as the values do not solve the equations, then closes.
@@ -315,37 +327,34 @@ impl Work {
             result }
         ensures lent { SameLent space.old space.new }
     {
-        let size = self.progress.size;
-        // Kept: the sheet goes back beside the refusal; `?` with `map_err` would take it anyway.
-        if let Err(refusal) = ready_in(size, script, space) {
-            return Err((self, refusal));
-        }
-        let end = self.make_rounds(solver, script, space);
-        space.clear(size.n);
-        self.settled_if(end)
+        self.settled(solver, script, space)
+            .map_err(|refusal| (self, refusal))
     }
 
-    // The questions of close, in order.
-    fn may_close<K: Semiring>(
+    // The settled sheet, if the values solve the equations.
+    fn closed<K: Semiring>(
         &self,
         script: Script<'_, K>,
         values: &[K],
         column: &[K],
         grid: &[K],
-    ) -> Result<(), Refusal>
-        ensures { Asked (close_questions K.algebra self.now
-            (beside script.entry values.now column.now grid.now)) result }
+    ) -> Result<Settled, Refusal>
+        ensures ok { IfOk result (λ settled. Closed K.algebra self.now
+            (beside script.entry values.now column.now grid.now) (Ok settled)) }
+        ensures err { IfErr result (λ why. Closed K.algebra self.now
+            (beside script.entry values.now column.now grid.now) (Err (self.now, why))) }
     {
         let size = self.progress.size;
         ready(size, script, values, column, grid)?;
         if !solved(size, script, values) {
             return Err(Refusal::Unsolved);
         }
-        Ok(())
+        Ok(Settled {
+            progress: self.progress,
+        })
     }
 
-    // Takes a sheet whose values solve the equations to settled. The slices are only read, so no
-    // space is asked for.
+    // Takes a sheet whose values solve the equations to settled.
     pub fn close<K: Semiring>(
         self,
         script: Script<'_, K>,
@@ -356,8 +365,8 @@ impl Work {
         ensures { Closed K.algebra self
             (beside script.entry values.now column.now grid.now) result }
     {
-        let asked = self.may_close(script, values, column, grid);
-        self.settled_if(asked)
+        self.closed(script, values, column, grid)
+            .map_err(|refusal| (self, refusal))
     }
 
     // How many rounds have been made.
