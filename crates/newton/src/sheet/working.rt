@@ -1,5 +1,6 @@
 // The calls of a sheet at work.
 ghost use Rattle.std.specs.Prelude.{◌≡◌, ◌<◌, ◌≤◌, ◌↔◌, [], length, IsTrue, IfOk, IfErr, Ok, Err};
+ghost use Rattle.std.specs.Result.{result_and};
 ghost use Rattle.equations.specs.Held.{no_branch, written};
 ghost use Rattle.linear.specs.Solved.{Fits, Accepted, one_more};
 ghost use Rattle.linear.specs.System.{entry_at};
@@ -197,6 +198,13 @@ fn step<K: Semiring, S: Solver>(
     take_over(n, values, column, grid);
 }
 
+// The settled sheet, if the rounds ended well.
+fn settled_after(progress: Progress, end: Result<(), Refusal>) -> Result<Settled, Refusal>
+    ensures { result ≡ result_and end (Ok (record { progress = progress })) }
+{
+    end.and(Ok(Settled { progress }))
+}
+
 impl Work {
     // Makes a round, if fewer have been made than there are routines.
     fn go_on<K: Semiring, S: Solver>(
@@ -310,8 +318,7 @@ impl Work {
         ready_in(size, script, space)?;
         let end = self.make_rounds(solver, script, space);
         space.clear(size.n);
-        let progress = self.progress;
-        end.and(Ok(Settled { progress }))
+        settled_after(self.progress, end)
     }
 
     // Makes rounds as long as the values do not solve the equations, then closes.

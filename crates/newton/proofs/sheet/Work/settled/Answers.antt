@@ -15,5 +15,5 @@ returns g c =
     let last = slices c.args.script made.new.space in
     let after = slices c.args.script c.clear.new.self in
     let told = c.clear.ensures in
-    let told_by = settles k c.args.self.now w s after (calls c.args.solver.now) (calls made.new.solver) c.in_ok-ready_in.ensures made.ensures.size (left_off k before.size before.rounds (calls c.args.solver.now) w.progress.rounds (calls made.new.solver) s last after refl refl made.ensures.rounds told.values told.column told.grid) made.result c.and.result (subst (λ vs. RoundsEnd k before.size w.progress.rounds (beside c.args.script vs [] []) made.result) (sym told.values) made.ensures.end) c.and.ensures in
+    let told_by = settles k c.args.self.now w s after (calls c.args.solver.now) (calls made.new.solver) c.in_ok-ready_in.ensures made.ensures.size (left_off k before.size before.rounds (calls c.args.solver.now) w.progress.rounds (calls made.new.solver) s last after refl refl made.ensures.rounds told.values told.column told.grid) made.result c.settled_after.result (subst (λ vs. RoundsEnd k before.size w.progress.rounds (beside c.args.script vs [] []) made.result) (sym told.values) made.ensures.end) c.settled_after.ensures in
     record { ok = told_by.0; err = told_by.1; lent = search rules }
