@@ -159,13 +159,9 @@ impl Semiring for Disc {
 
     // The other set, turned by each station of this one.
     fn product(self, other: Disc) -> Disc {
-        let mut all = Disc::zero();
-        for s in 0..24 {
-            if self.has(s) {
-                all = all.sum(other.turned(s));
-            }
-        }
-        all
+        (0..24)
+            .filter(|s| self.has(*s))
+            .fold(Disc::zero(), |all, s| all.sum(other.turned(s)))
     }
 
     fn star(self) -> Disc {

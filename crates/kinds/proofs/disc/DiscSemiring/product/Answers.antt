@@ -1,15 +1,22 @@
-use Rattle.std.proofs.Common.{sym, ◌∙◌, ap₂, arith}
-use Rattle.kinds.specs.Disc.{plus}
-use Rattle.kinds.proofs.Turns.{partial_none, partial_turn, partial_skip}
+use Rattle.std.proofs.Common.{◌≡◌, ℕ, List, [], ◌∷◌, refl, ◌∙◌, rules, tests}
+use Rattle.std.specs.Prelude.{fold}
+use Rattle.std.specs.Iterator.Adapters.{filter_steps}
+use Rattle.std.proofs.iter.Yields.{nat_range_steps}
+use Rattle.std.proofs.lemmas.Fn.{fold_over}
+use Rattle.std.proofs.lemmas.List.Sums.{fold-append}
+use Rattle.std.proofs.lemmas.Iterator.{YieldsList-from_range}
+use Rattle.std.proofs.lemmas.Iterator.Consumers.{YieldsList-from_filter, YieldsList-at}
+use Rattle.kinds.specs.declared.weights.Disc.{Disc}
+use Rattle.kinds.specs.Disc.{has, zero}
+use Rattle.kinds.proofs.Turns.{turn, gathered_all}
 use Rattle.kinds.proofs.disc.DiscSemiring.product.Goals as goal
-use Rattle.kinds.proofs.disc.DiscSemiring.product.Goals.{then-has, else-has}
 
-pub loop-s-init : goal.loop-s-init
-loop-s-init c = c.zero-all.ensures ∙ partial_none c.args.self c.args.other
-
-pub loop-s-preserved : goal.loop-s-preserved
-loop-s-preserved c =
-    elim c.if-has.branch [
-      | then-has w ↦ w.all-is ∙ w.sum-all.ensures ∙ ap₂ plus c.loop-s.invariant w.turned.ensures ∙ partial_turn c.args.self c.args.other c.loop-s.s (omega arith) (sym w.if-has.ensures)
-      | else-has w ↦ w.all-is ∙ c.loop-s.invariant ∙ partial_skip c.args.self c.args.other c.loop-s.s (sym w.if-has.ensures)
-    ]
+pub returns : goal.returns
+returns c =
+    let J : List ℕ → Disc → Type 0 = λ ys all. all ≡ fold (turn c.args.other) zero ys in
+    fold_over (filter_steps nat_range_steps _) (λ x. x) _ J _
+    (λ ys a x b f j k. search (rules, fold-append (turn c.args.other) zero ys (x ∷ [])))
+    _ _ c.zero.result c.fold.result
+    (YieldsList-from_filter _ (has c.args.self) (YieldsList-at c.filter.ensures.source (YieldsList-from_range 0 24 24 refl refl)) c.filter.ensures.closure (λ x b q k. search (rules, tests))).runs
+    c.zero.ensures c.fold.ensures.ran
+    ∙ gathered_all c.args.self c.args.other
