@@ -1,6 +1,13 @@
 -- Meeting the names of a calls word, one at a time from the left.
-use Rattle.std.proofs.Common.{◌≡◌, ℕ, ◌+◌, ◌<◌, ◌≤◌, ◌⊎◌, List, [], ◌∷◌, ◌++◌, length, get_or, take, drop, Some, None, Option, sym, refl, ap, ◌∙◌, subst, inl, inr, append_assoc, append-nil, arith, length-append}
+use Rattle.std.proofs.Common.{◌≡◌, ℕ, ◌+◌, ◌<◌, ◌≤◌, ◌==◌, Bool, false, Bor, ◌⊎◌, List, [], ◌∷◌, ◌++◌, length, get_or, take, drop, Some, None, Option, sym, refl, ap, ◌∙◌, subst, inl, inr, append_assoc, append-nil, arith, length-append}
 use Rattle.std.proofs.lemmas.List.{take_more, take-append-drop}
+use Rattle.std.proofs.lemmas.Iterator.{YieldsList}
+use Rattle.std.proofs.lemmas.Iterator.Consumers.{YieldsList-at}
+use Rattle.std.proofs.lemmas.Iterator.Splits.{YieldsList-from_slice_split}
+use Rattle.std.specs.Fn.{CalledAt}
+use Rattle.std.specs.Slice.Iter.{split_rest, split_done, split_callee, split_steps}
+use Rattle.reader.specs.Format.{pieces, plus_sign}
+use denote.Param.Members.{Mut}
 use Rattle.reader.specs.Known.{Grows, Numbered}
 use Rattle.script.specs.Legend.{Legend, number_of, met, all_met, numbers_of}
 use Rattle.reader.proofs.Numbering.{Old, New, old_or_new}
@@ -41,6 +48,17 @@ numbers_push legend (x ∷ xs) w = ap (λ ns. number_of legend x ∷ ns) (number
 pub length-numbers : (legend : Legend) (ws : List (List ℕ)) → length (numbers_of legend ws) ≡ length ws
 length-numbers legend [] = refl
 length-numbers legend (w ∷ ws) = omega (arith, length-numbers (met legend w) ws)
+
+-- the loop over a calls word cut at its plus signs goes over its names
+pub names_yielded :
+    {F : Type 0} {s it : _} {f : F} (g : Mut F (Bor ℕ × Unit {0}) Bool) (word : List ℕ) →
+    split_rest s ≡ word →
+    split_done s ≡ false →
+    split_callee s ≡ f →
+    it ≡ s →
+    ((b : ℕ) (r : Bool) (q : F) → CalledAt g f b r q → (q ≡ f) × (r ≡ (b == plus_sign))) →
+    YieldsList (split_steps g) (λ name. name.now) it (pieces plus_sign word)
+names_yielded g word rest done callee same told = YieldsList-at same (YieldsList-from_slice_split g (λ b. b == plus_sign) word rest done callee told)
 
 -- the name at n, once those before it are met
 module _ (legend : Legend) (ws : List (List ℕ)) (n : ℕ) (w : List ℕ) (within : n < length ws) (here : w ≡ get_or ws n w) where

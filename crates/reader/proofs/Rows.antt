@@ -6,12 +6,13 @@ use Rattle.std.proofs.lemmas.Result.{err_from_is_err_and}
 use Rattle.script.specs.declared.branch.Branch.{Branch}
 use Rattle.script.specs.declared.fault.Fault.{Fault}
 use Rattle.script.specs.declared.place.Place.{Place}
+use Rattle.reader.specs.declared.line.Row.{Row}
 use Rattle.script.specs.declared.refusal.reader.ReaderRefusal.{ReaderRefusal as Refusal}
 use Rattle.script.specs.declared.refusal.reader.ReaderRefusal.TheVariants.{Words, Name, Number, Names, Calls as BadCalls}
 use Rattle.reader.specs.Format.{is_name, in_range, is_calls, called, value}
 use Rattle.script.specs.Legend.{Legend, number_of, met, numbers_of}
 use Rattle.reader.proofs.Calling.{length-numbers}
-use Rattle.reader.specs.Row.{fault_at, Column, Routine, Called, Refuses, Reads}
+use Rattle.reader.specs.Row.{row_words, fault_at, Column, Routine, Called, Refuses, Reads}
 use Rattle.reader.specs.Text.{reader_fault, Misread, asked, offset, few, routine_met, line_met, line_refusal, line_branch, four}
 
 -- a place that is so far behind another one, on its line
@@ -42,48 +43,72 @@ module _ (legend : Legend) (n s l t c : List ℕ) where
       asked name Name 0 (asked names Names 0 (asked seconds Number (offset ws 1) (asked light Number (offset ws 2)
       (asked turn Number (offset ws 3) (asked calls BadCalls (offset ws 4) (asked all Names (offset ws 4) None))))))
 
-  abbrev room : Bool
-  room = few (routine_met legend ws)
+  pub good_line :
+      is_name n ≡ true →
+      few (routine_met legend ws) ≡ true →
+      in_range 3600 s ≡ true →
+      in_range 65535 l ≡ true →
+      in_range 23 t ≡ true →
+      is_calls c ≡ true →
+      few (line_met legend ws) ≡ true →
+      line_refusal legend ws ≡ None
+  good_line name room seconds light turn calls all i = answered (name i) (room i) (seconds i) (light i) (turn i) (calls i) (all i)
 
-  abbrev seconds : Bool
-  seconds = in_range 3600 s
+-- the words of a row, up to the first that is refused
+module _ (legend : Legend) (w : Row) (place : Place) where
+  abbrev words : List (List ℕ)
+  words = row_words w
 
-  abbrev light : Bool
-  light = in_range 65535 l
+  abbrev questions : (name names seconds light turn calls all : Bool) → Option Misread
+  questions = answered legend w.name.now w.seconds.now w.light.now w.turn.now w.calls.now
 
-  abbrev turn : Bool
-  turn = in_range 23 t
+  abbrev room_left : Bool
+  room_left = few (routine_met legend words)
 
-  abbrev all : Bool
-  all = few (line_met legend ws)
+  abbrev seconds_in : Bool
+  seconds_in = in_range 3600 w.seconds.now
 
-  pub good_line : is_name n ≡ true → room ≡ true → seconds ≡ true → light ≡ true → turn ≡ true → is_calls c ≡ true → all ≡ true → line_refusal legend ws ≡ None
-  good_line name_ok room_ok seconds_ok light_ok turn_ok calls_ok all_ok i = answered (name_ok i) (room_ok i) (seconds_ok i) (light_ok i) (turn_ok i) (calls_ok i) (all_ok i)
+  abbrev light_in : Bool
+  light_in = in_range 65535 w.light.now
 
-  module _ (place : Place) where
-    pub bad_routine : (fault : Fault) (after : Legend) → Routine legend n place (Err fault) after → Refuses legend ws place fault
-    bad_routine fault after (inl h) = ((Name, 0), (λ i. answered (h.0 i) room seconds light turn (is_calls c) all), h.1 ∙ moved place place Name 0 (start place))
-    bad_routine fault after (inr h) = ((Names, 0), (λ i. answered (h.0 i) (h.1 i) seconds light turn (is_calls c) all), h.2 ∙ moved place place Names 0 (start place))
+  abbrev turn_in : Bool
+  turn_in = in_range 23 w.turn.now
 
-    module _ (name : is_name n ≡ true) (met : room ≡ true) where
-      pub bad_seconds : (fault : Fault) (at : Place) → At place at (offset ws 1) → Column 3600 s at (Err fault) → Refuses legend ws place fault
-      bad_seconds fault at is h = ((Number, offset ws 1), (λ i. answered (name i) (met i) (h.0 i) light turn (is_calls c) all), h.1 ∙ moved place at Number _ is)
+  abbrev calls_in : Bool
+  calls_in = is_calls w.calls.now
 
-      module _ (seconds_ok : seconds ≡ true) where
-        pub bad_light : (fault : Fault) (at : Place) → At place at (offset ws 2) → Column 65535 l at (Err fault) → Refuses legend ws place fault
-        bad_light fault at is h = ((Number, offset ws 2), (λ i. answered (name i) (met i) (seconds_ok i) (h.0 i) turn (is_calls c) all), h.1 ∙ moved place at Number _ is)
+  abbrev all_in : Bool
+  all_in = few (line_met legend words)
 
-        module _ (light_ok : light ≡ true) where
-          pub bad_turn : (fault : Fault) (at : Place) → At place at (offset ws 3) → Column 23 t at (Err fault) → Refuses legend ws place fault
-          bad_turn fault at is h =
-              ((Number, offset ws 3), (λ i. answered (name i) (met i) (seconds_ok i) (light_ok i) (h.0 i) (is_calls c) all), h.1 ∙ moved place at Number _ is)
+  pub bad_routine : (fault : Fault) (after : Legend) → Routine legend w.name.now place (Err fault) after → Refuses legend words place fault
+  bad_routine fault after (inl h) = ((Name, 0), (λ i. questions (h.0 i) room_left seconds_in light_in turn_in calls_in all_in), h.1 ∙ moved place place Name 0 (start place))
+  bad_routine fault after (inr h) = ((Names, 0), (λ i. questions (h.0 i) (h.1 i) seconds_in light_in turn_in calls_in all_in), h.2 ∙ moved place place Names 0 (start place))
 
-          module _ (turn_ok : turn ≡ true) where
-            pub bad_calls : (fault : Fault) (at : Place) (after : Legend) → At place at (offset ws 4) → Called (routine_met legend ws) c at (Err fault) after → Refuses legend ws place fault
-            bad_calls fault at after is (inl h) =
-                ((BadCalls, offset ws 4), (λ i. answered (name i) (met i) (seconds_ok i) (light_ok i) (turn_ok i) (h.0 i) all), h.1 ∙ moved place at BadCalls _ is)
-            bad_calls fault at after is (inr h) =
-                ((Names, offset ws 4), (λ i. answered (name i) (met i) (seconds_ok i) (light_ok i) (turn_ok i) (h.0 i) (h.1 i)), h.2 ∙ moved place at Names _ is)
+  module _ (name : is_name w.name.now ≡ true) (met : room_left ≡ true) where
+    pub bad_seconds : (fault : Fault) (at : Place) → At place at (offset words 1) → Column 3600 w.seconds.now at (Err fault) → Refuses legend words place fault
+    bad_seconds fault at is h =
+        ((Number, offset words 1), (λ i. questions (name i) (met i) (h.0 i) light_in turn_in calls_in all_in), h.1 ∙ moved place at Number _ is)
+
+    module _ (seconds : seconds_in ≡ true) where
+      pub bad_light : (fault : Fault) (at : Place) → At place at (offset words 2) → Column 65535 w.light.now at (Err fault) → Refuses legend words place fault
+      bad_light fault at is h =
+          ((Number, offset words 2), (λ i. questions (name i) (met i) (seconds i) (h.0 i) turn_in calls_in all_in), h.1 ∙ moved place at Number _ is)
+
+      module _ (light : light_in ≡ true) where
+        pub bad_turn : (fault : Fault) (at : Place) → At place at (offset words 3) → Column 23 w.turn.now at (Err fault) → Refuses legend words place fault
+        bad_turn fault at is h =
+            ((Number, offset words 3), (λ i. questions (name i) (met i) (seconds i) (light i) (h.0 i) calls_in all_in), h.1 ∙ moved place at Number _ is)
+
+        module _ (turn : turn_in ≡ true) where
+          pub bad_calls :
+              (fault : Fault) (at : Place) (after : Legend) →
+              At place at (offset words 4) →
+              Called (routine_met legend words) w.calls.now at (Err fault) after →
+              Refuses legend words place fault
+          bad_calls fault at after is (inl h) =
+              ((BadCalls, offset words 4), (λ i. questions (name i) (met i) (seconds i) (light i) (turn i) (h.0 i) all_in), h.1 ∙ moved place at BadCalls _ is)
+          bad_calls fault at after is (inr h) =
+              ((Names, offset words 4), (λ i. questions (name i) (met i) (seconds i) (light i) (turn i) (h.0 i) (h.1 i)), h.2 ∙ moved place at Names _ is)
 
 pub length-four : (ns : List ℕ) → length (four ns) ≡ 4
 length-four ns = simp (length-take, length-append) (omega arith)
@@ -97,7 +122,12 @@ four_filled (a ∷ b ∷ c ∷ d ∷ []) few = refl
 four_filled (a ∷ b ∷ c ∷ d ∷ e ∷ ns) few = absurd (omega arith)
 
 -- a fault that is handed on
-pub handed_on : (legend : Legend) (ws ws' : List (List ℕ)) (place : Place) (r : Result Branch Fault) (fault : Fault) (after : Legend) → ws ≡ ws' → IsErrAnd r (λ x. x ≡ fault) → Refuses legend ws' place fault → Reads legend ws place r after
+pub handed_on :
+    (legend : Legend) (ws ws' : List (List ℕ)) (place : Place) (r : Result Branch Fault) (fault : Fault) (after : Legend) →
+    ws ≡ ws' →
+    IsErrAnd r (λ x. x ≡ fault) →
+    Refuses legend ws' place fault →
+    Reads legend ws place r after
 handed_on legend vs vs' place r fault after same handed h =
     let p = err_from_is_err_and r handed in
     subst₂ (λ v q. Reads legend v place q after) (sym same) (sym (p.1 ∙ ap Err p.2)) h

@@ -1,22 +1,18 @@
-use Rattle.std.proofs.Common.{◌<◌, ◌==◌, [], ◌∷◌, ◌++◌, length, take, sym, ap, ◌∙◌, arith, rules, tests}
+use Rattle.std.proofs.Common.{◌<◌, [], ◌∷◌, ◌++◌, length, take, sym, ap, ◌∙◌, arith, rules, tests}
 use lib.ListN.{length-map}
 use Rattle.std.proofs.lemmas.Bool.{and_parts, leb-true}
 use Rattle.std.proofs.lemmas.List.{length-take-le, take_all, length_push}
-use Rattle.std.proofs.lemmas.Iterator.Consumers.{YieldsList-at, YieldsList-turn, YieldsList-end}
-use Rattle.std.proofs.lemmas.Iterator.Splits.{YieldsList-from_slice_split}
+use Rattle.std.proofs.lemmas.Iterator.Consumers.{YieldsList-turn, YieldsList-end}
 use Rattle.script.specs.Legend.{number_of, met, all_met, numbers_of}
 use Rattle.reader.specs.Format.{pieces}
 use Rattle.reader.specs.Known.{known, Grows}
-use Rattle.reader.proofs.Calling.{grows_on, numbered_grows, all_met_grows, length-numbers, met_more, numbers_more, too_many}
+use Rattle.reader.proofs.Calling.{grows_on, numbered_grows, all_met_grows, length-numbers, met_more, names_yielded, numbers_more, too_many}
 use Rattle.reader.proofs.line.read.number_names.Goals as goal
 
 pub push-requires : goal.push-requires
 push-requires c =
     let s = c.split-name-items.ensures in
-    let t = YieldsList-turn
-    (YieldsList-at c.into_iter-name-iterator.ensures.into_iter_gives
-    (YieldsList-from_slice_split _ (λ b. b == 43) c.args.word.now s.rest s.done s.closure (λ x b q k. search (rules, tests))))
-    c.loop-name.yielded _ c.loop-name.yielded_by _ _ c.in-Some.name c.in-Some.is c.next.ensures.steps in
+    let t = YieldsList-turn (names_yielded _ c.args.word.now s.rest s.done s.closure c.into_iter-name-iterator.ensures.into_iter_gives (λ b r q k. search (rules, tests))) c.loop-name.yielded _ c.loop-name.yielded_by _ _ c.in-Some.name c.in-Some.is c.next.ensures.steps in
     let n = length c.loop-name.yielded in
     let ws = pieces 43 c.args.word.now in
     omega (
@@ -31,10 +27,7 @@ push-requires c =
 pub returns-in_err-number-clause-numbered : goal.returns-in_err-number-clause-numbered
 returns-in_err-number-clause-numbered c =
     let s = c.split-name-items.ensures in
-    let t = YieldsList-turn
-    (YieldsList-at c.into_iter-name-iterator.ensures.into_iter_gives
-    (YieldsList-from_slice_split _ (λ b. b == 43) c.args.word.now s.rest s.done s.closure (λ x b q k. search (rules, tests))))
-    c.loop-name.yielded _ c.loop-name.yielded_by _ _ c.in-Some.name c.in-Some.is c.next.ensures.steps in
+    let t = YieldsList-turn (names_yielded _ c.args.word.now s.rest s.done s.closure c.into_iter-name-iterator.ensures.into_iter_gives (λ b r q k. search (rules, tests))) c.loop-name.yielded _ c.loop-name.yielded_by _ _ c.in-Some.name c.in-Some.is c.next.ensures.steps in
     let before = known c.args.names.now in
     let over : 32 < length (met (all_met before (take (length c.loop-name.yielded) (pieces 43 c.args.word.now))) c.in-Some.name.now) = rw c.loop-name.invariant.2 at c.in_err-number.ensures.0 in
     rw c.from_residual.ensures (too_many before (pieces 43 c.args.word.now) (length c.loop-name.yielded) c.in-Some.name.now t.0 t.1 over)
@@ -49,10 +42,7 @@ returns-in_err-number-clause-grows c =
 pub loop-name-preserved : goal.loop-name-preserved
 loop-name-preserved c =
     let s = c.split-name-items.ensures in
-    let t = YieldsList-turn
-    (YieldsList-at c.into_iter-name-iterator.ensures.into_iter_gives
-    (YieldsList-from_slice_split _ (λ b. b == 43) c.args.word.now s.rest s.done s.closure (λ x b q k. search (rules, tests))))
-    c.loop-name.yielded _ c.loop-name.yielded_by _ _ c.in-Some.name c.in-Some.is c.next.ensures.steps in
+    let t = YieldsList-turn (names_yielded _ c.args.word.now s.rest s.done s.closure c.into_iter-name-iterator.ensures.into_iter_gives (λ b r q k. search (rules, tests))) c.loop-name.yielded _ c.loop-name.yielded_by _ _ c.in-Some.name c.in-Some.is c.next.ensures.steps in
     let before = known c.args.names.now in
     let ws = pieces 43 c.args.word.now in
     let n = length c.loop-name.yielded in
@@ -69,10 +59,7 @@ loop-name-preserved c =
 pub returns : goal.returns
 returns c =
     let s = c.split-name-items.ensures in
-    let t = YieldsList-end
-    (YieldsList-at c.into_iter-name-iterator.ensures.into_iter_gives
-    (YieldsList-from_slice_split _ (λ b. b == 43) c.args.word.now s.rest s.done s.closure (λ x b q k. search (rules, tests))))
-    c.loop-name.yielded _ c.loop-name.yielded_by _ _ c.in-None.is c.next.ensures.steps in
+    let t = YieldsList-end (names_yielded _ c.args.word.now s.rest s.done s.closure c.into_iter-name-iterator.ensures.into_iter_gives (λ b r q k. search (rules, tests))) c.loop-name.yielded _ c.loop-name.yielded_by _ _ c.in-None.is c.next.ensures.steps in
     let before = known c.args.names.now in
     let ws = pieces 43 c.args.word.now in
     let all = take_all (length c.loop-name.yielded) ws (omega (arith, t.1)) in

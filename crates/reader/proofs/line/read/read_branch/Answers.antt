@@ -19,7 +19,7 @@ returns-in_err-routine-clause-read c =
     let before = known c.args.names.now in
     let after = known c.read_routine.new.names in
     handed_on before _ (row_words w) c.args.place _ _ after c.in_ok-row.ensures.0 c.from_residual-in_err-routine.ensures.1
-    (bad_routine before w.name.now w.seconds.now w.light.now w.turn.now w.calls.now c.args.place _ after c.in_err-routine.ensures.routine)
+    (bad_routine before w c.args.place _ after c.in_err-routine.ensures.routine)
 
 pub returns-in_err-seconds-clause-read : goal.returns-in_err-seconds-clause-read
 returns-in_err-seconds-clause-read c =
@@ -27,7 +27,7 @@ returns-in_err-seconds-clause-read c =
     let k = c.in_ok-routine.ensures.routine in
     let before = known c.args.names.now in
     handed_on before _ (row_words w) c.args.place _ _ (known c.read_routine.new.names) c.in_ok-row.ensures.0 c.from_residual-in_err-seconds.ensures.1
-    (bad_seconds before w.name.now w.seconds.now w.light.now w.turn.now w.calls.now c.args.place k.0 k.1 _ _ (record { line = cc; byte = omega arith }) c.in_err-seconds.ensures)
+    (bad_seconds before w c.args.place k.0 k.1 _ _ (record { line = cc; byte = omega arith }) c.in_err-seconds.ensures)
 
 pub returns-in_err-light-clause-read : goal.returns-in_err-light-clause-read
 returns-in_err-light-clause-read c =
@@ -36,7 +36,7 @@ returns-in_err-light-clause-read c =
     let s = c.in_ok-seconds.ensures in
     let before = known c.args.names.now in
     handed_on before _ (row_words w) c.args.place _ _ (known c.read_routine.new.names) c.in_ok-row.ensures.0 c.from_residual-in_err-light.ensures.1
-    (bad_light before w.name.now w.seconds.now w.light.now w.turn.now w.calls.now c.args.place k.0 k.1 s.0 _ _ (record { line = cc; byte = omega arith }) c.in_err-light.ensures)
+    (bad_light before w c.args.place k.0 k.1 s.0 _ _ (record { line = cc; byte = omega arith }) c.in_err-light.ensures)
 
 pub returns-in_err-turn-clause-read : goal.returns-in_err-turn-clause-read
 returns-in_err-turn-clause-read c =
@@ -46,7 +46,7 @@ returns-in_err-turn-clause-read c =
     let l = c.in_ok-light.ensures in
     let before = known c.args.names.now in
     handed_on before _ (row_words w) c.args.place _ _ (known c.read_routine.new.names) c.in_ok-row.ensures.0 c.from_residual-in_err-turn.ensures.1
-    (bad_turn before w.name.now w.seconds.now w.light.now w.turn.now w.calls.now c.args.place k.0 k.1 s.0 l.0 _ _ (record { line = cc; byte = omega arith }) c.in_err-turn.ensures)
+    (bad_turn before w c.args.place k.0 k.1 s.0 l.0 _ _ (record { line = cc; byte = omega arith }) c.in_err-turn.ensures)
 
 pub returns-in_err-calls-clause-read : goal.returns-in_err-calls-clause-read
 returns-in_err-calls-clause-read c =
@@ -59,7 +59,7 @@ returns-in_err-calls-clause-read c =
     let after = known c.read_calls.new.names in
     let at = c.next_place-calls_at.result in
     handed_on before _ (row_words w) c.args.place _ _ after c.in_ok-row.ensures.0 c.from_residual-in_err-calls.ensures.1
-    (bad_calls before w.name.now w.seconds.now w.light.now w.turn.now w.calls.now c.args.place k.0 k.1 s.0 l.0 t.0 c.in_err-calls.field-0.0 at after (record { line = cc; byte = omega arith })
+    (bad_calls before w c.args.place k.0 k.1 s.0 l.0 t.0 c.in_err-calls.field-0.0 at after (record { line = cc; byte = omega arith })
     (subst (λ m. Called m w.calls.now at (Err c.in_err-calls.field-0.0) after) k.3 c.in_err-calls.ensures.called))
 
 pub returns-clause-read : goal.returns-clause-read
