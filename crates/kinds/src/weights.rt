@@ -18,6 +18,7 @@ pub enum Least {
 }
 
 // The most seconds of a way: none at all, or 0 to 65,535, where the last stands for any more.
+// Kept: a type beside `Least`, since order, star and what is past the bound differ, not a constant.
 // Kept: an `Option` would need a struct around it to print, and `Never` is the name that it prints.
 #[derive(Clone, Copy, PartialEq, Eq, PartialOrd, Ord, Debug)]
 pub enum Most {

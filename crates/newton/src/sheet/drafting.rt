@@ -1,4 +1,5 @@
 // The calls of a draft.
+// Kept: the two slices that they write are lent apart; no fact ties one to the other but `held`.
 ghost use Rattle.std.specs.Prelude.{◌≡◌, ◌<◌, ◌≤◌, ◌↔◌, [], length, None, OnOk, IsTrue};
 ghost use Rattle.newton.specs.Loading.{Taken, Loads};
 ghost use Rattle.std.specs.List.{AllByRecursion};
