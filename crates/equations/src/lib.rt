@@ -1,6 +1,5 @@
-// The equations of a script that lies in lent slices: f at a routine or in a column, the slopes in
-// a grid, and whether values solve the equations. Held are the first `held` branches with their
-// weights. A value past the end of the value slice is read as zero.
+// The equations of a script that lies in lent slices, and the products of which they are made. A
+// value past the end of the value slice is read as zero.
 #![tactic(auto)]
 
 ghost use Rattle.std.specs.Prelude.{◌≡◌};

@@ -1,4 +1,5 @@
-// The rules that lie in two lent slices: branches, with the weight of each.
+// The rules that lie in two lent slices: branches, with the weight of each. f at a routine or in a
+// column, the slopes in a grid, and whether values solve the equations.
 ghost use Rattle.std.specs.Prelude.{◌≡◌, length};
 
 use crate::{called, others, value_at};
@@ -6,7 +7,7 @@ use script::branch::Branch;
 use semiring::Semiring;
 
 // Rule i is branch i with weight i.
-// Kept: two slices, since every kind has weights of its own for the one table of branches.
+// Kept: two slices side by side: pairs would copy the table of branches for each kind's weights.
 #[derive(Drop)]
 pub struct Rules<'a, K> {
     branches: &'a [Branch],
@@ -83,6 +84,7 @@ impl<'a, K: Semiring> Rules<'a, K> {
     }
 
     // Fills the first n × n places of a grid with the slopes: row r, place q at r × n + q.
+    // Kept: the grid is one slice, as it is lent to a solver.
     #[tactic(auto, using(crate::proofs::Slices::written_more))]
     pub fn slopes(&self, n: usize, values: &[K], grid: &mut [K])
         requires { n * n ≤ length grid.old }

@@ -9,7 +9,7 @@ use script::branch::Branch;
 use semiring::Semiring;
 
 // The branches of a sheet, and what each weighs.
-// Kept: two slices, since every kind has weights of its own for the one table of branches.
+// Kept: two slices side by side: pairs would copy the table of branches for each kind's weights.
 #[derive(Clone, Copy)]
 pub struct Script<'a, K> {
     pub branches: &'a [Branch],
@@ -18,6 +18,7 @@ pub struct Script<'a, K> {
 
 // The values of a sheet's routines, with a column and a grid to work in. Each slice has a lifetime
 // of its own, so that one can be read while another is written.
+// Kept: that it lends the same slices is a clause of each call; no type speaks of two moments.
 #[derive(Drop)]
 pub struct Space<'v, 'c, 'g, K> {
     pub values: &'v mut [K],

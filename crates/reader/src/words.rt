@@ -60,6 +60,7 @@ pub(crate) fn name_ok(word: &[u8]) -> bool
 
 // The number that digits write, where it is at most `most`. However many digits there are, the
 // value stays below ten times the bound and ten.
+// Kept: the library's `parse` reads text, not bytes, and takes a sign.
 fn digits(word: &[u8], most: u16) -> Option<u16>
     ensures { MatchOption result ((list_all digit word.now && nat_le (value word.now) most) ≡ false)
         (λ n. ((list_all digit word.now && nat_le (value word.now) most) ≡ true)

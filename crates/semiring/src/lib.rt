@@ -33,6 +33,7 @@ pub trait Semiring: Copy + Eq {
         ensures { result ≡ algebra.star self };
 
     // Yes exactly where the two weights are equal.
+    // Kept: its clauses say of weights what the law says of `==`, for code over any kind.
     fn same(self, other: Self) -> bool
         ensures yes { result ≡ true → self ≡ other }
         ensures no { result ≡ false → self ≢ other }

@@ -1,5 +1,6 @@
 // The calls of a draft.
-// Kept: the two slices that they write are lent apart; no fact ties one to the other but `held`.
+// Kept: branches and weights are two slices to write in, not one value: whether both have room is a
+// question of each call, and a struct of two `&mut` would add a clause on what it lends to each.
 ghost use Rattle.std.specs.Prelude.{◌≡◌, ◌<◌, ◌≤◌, ◌↔◌, [], length, None, OnOk, IsTrue};
 ghost use Rattle.newton.specs.Loading.{Taken, Loads};
 ghost use Rattle.std.specs.List.{AllByRecursion};
