@@ -8,8 +8,8 @@ use semiring::Semiring;
 // A solver is handed the number of unknowns n, the grid with A and the column with b, and leaves in
 // the column's first n places the least x with x = A x + b. The grid's first n × n places are then
 // free, and all other places of both slices are as they were.
-// Kept: n and two slices apart, and so wherever a caller's system is handed on: a type in which they
-// fit would ask of callers what is a question here.
+// Kept: n and two slices apart, and so wherever a caller's system is handed on: a type in which
+// they fit would ask of callers what is a question here.
 pub trait Solver {
     // How many systems it has solved.
     ghost calls: { Self → ℕ };

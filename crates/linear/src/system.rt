@@ -27,8 +27,8 @@ fn sum_of_products<K: Semiring>(row: &[K], column: &[K]) -> K
 // n unknowns, the grid as n rows of n places each over the first n × n places of a lent slice, and
 // the column over the first n places of another.
 // Kept: the grid is one slice, as it is lent; rows of their own would need the heap.
-// Kept: that a row is below n is asked of each number, and how far a removal has come of each step; a
-// type that knows it would have to name the one system that it is true of.
+// Kept: that a row is below n is asked of each number, and how far a removal has come of each
+// step; a type that knows it would have to name the one system that it is true of.
 #[derive(Drop)]
 pub(crate) struct System<'a, K> {
     pub n: usize,
