@@ -1,10 +1,9 @@
 // The slices that are lent to the calls of a sheet at work.
 ghost use Rattle.std.specs.Prelude.{◌≡◌, ◌*◌, ◌≤◌, length};
 ghost use Rattle.linear.specs.System.{entry_at};
-ghost use Rattle.equations.specs.Held.{rules_of, listed, written};
+ghost use Rattle.equations.specs.Held.{written};
 ghost use Rattle.newton.specs.Slices.{SameLent};
 
-use equations::rules::Rules;
 use script::branch::Branch;
 use semiring::Semiring;
 
@@ -24,18 +23,6 @@ pub struct Space<'v, 'c, 'g, K> {
     pub values: &'v mut [K],
     pub column: &'c mut [K],
     pub grid: &'g mut [K],
-}
-
-impl<'a, K: Semiring> Script<'a, K> {
-    // The rules of the first `held` branches.
-    pub(crate) fn rules(self, held: usize) -> Rules<'a, K>
-        requires branches { held ≤ length self.branches.now }
-        requires weights { held ≤ length self.weights.now }
-        ensures { listed K.algebra result
-            ≡ rules_of K.algebra held self.entry.branches.now self.entry.weights.now }
-    {
-        Rules::held(held, self.branches, self.weights)
-    }
 }
 
 // Fills the first places with zero.

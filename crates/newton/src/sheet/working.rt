@@ -12,6 +12,7 @@ use super::drafting::names_below;
 use super::{Draft, Progress, Settled, Size, Work};
 use crate::refusal::Refusal;
 use crate::slices::{Script, Space, take_over};
+use equations::rules::Rules;
 use linear::solver::Solver;
 use script::branch::Branch;
 use semiring::Semiring;
@@ -77,7 +78,7 @@ fn solved<K: Semiring>(size: Size, script: Script<'_, K>, values: &[K]) -> bool
     requires weights { size.held ≤ length script.weights.now }
     ensures { IsTrue result ↔ SolvedBy K.algebra size (beside script.entry values.now [] []) }
 {
-    script.rules(size.held).solves(size.n, values)
+    Rules::held(size.held, script.branches, script.weights).solves(size.n, values)
 }
 
 // The same of the values of a space.
@@ -119,7 +120,7 @@ impl Draft {
     {
         let size = self.size;
         ready_in(size, script, space)?;
-        script.rules(size.held).image(size.n, &[], space.values);
+        Rules::held(size.held, script.branches, script.weights).image(size.n, &[], space.values);
         space.clear(size.n);
         Ok(Work {
             progress: Progress::new(size),
@@ -171,7 +172,7 @@ fn lift<K: Semiring>(
         (beside script.entry values.new column.new grid.new) }
 {
     let n = size.n;
-    script.rules(size.held).image(n, values, column);
+    Rules::held(size.held, script.branches, script.weights).image(n, values, column);
     take_over(n, values, column, grid);
 }
 
@@ -191,7 +192,7 @@ fn step<K: Semiring, S: Solver>(
     ensures calls { S.Solver.calls solver.new ≡ one_more (S.Solver.calls solver.old) }
 {
     let n = size.n;
-    let rules = script.rules(size.held);
+    let rules = Rules::held(size.held, script.branches, script.weights);
     rules.image(n, values, column);
     rules.slopes(n, values, grid);
     solve(solver, n, grid, column);

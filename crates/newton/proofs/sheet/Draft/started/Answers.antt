@@ -10,6 +10,6 @@ returns-clause-ok g c =
       asked = c.in_ok-ready_in.ensures;
       size = c.new.ensures.size;
       rounds = c.new.ensures.rounds;
-      values = told.values ∙ imaged k c.rules.ensures (λ r. k.zero) c.args.self.now.size.n c.args.space.now.values.now c.image.new.column c.image.ensures;
+      values = told.values ∙ imaged k c.held.ensures (λ r. k.zero) c.args.self.now.size.n c.args.space.now.values.now c.image.new.column c.image.ensures;
       cleared = record { branches = refl; weights = refl; column = told.column; grid = told.grid };
     }
