@@ -1,5 +1,5 @@
 -- What rounds leave of the places that they do not name.
-use Rattle.std.proofs.Common.{◌≡◌, ℕ, zero, suc, ◌*◌, ◌++◌, length, drop, ap, ◌∙◌, subst, sym, arith, inr, Ok, Err, Result}
+use Rattle.std.proofs.Common.{◌≡◌, ℕ, zero, suc, ◌*◌, ◌++◌, drop, ap, ◌∙◌, subst, sym, arith, inl, inr, Ok, Err, Result}
 use Rattle.std.specs.Prelude.{IfOk, IfErr}
 use Rattle.std.specs.Result.{result_and}
 use Rattle.semiring.specs.Algebra.{Algebra}
@@ -11,8 +11,8 @@ use Rattle.newton.specs.declared.sheet.Work.{Work}
 use Rattle.newton.specs.declared.sheet.Settled.{Settled}
 use Rattle.script.specs.declared.refusal.sheet.SheetRefusal.{SheetRefusal as Refusal}
 use Rattle.newton.specs.Questions.{Passed}
-use Rattle.newton.specs.Working.{HasRoom, slice_questions, RoundsEnd, SettlesBy, SolvedBy, NewtonStep, Counts, Made, RoundsOn, LeavesOff}
-use Rattle.newton.proofs.Written.{written_tail, written_size}
+use Rattle.newton.specs.Working.{slice_questions, due_questions, RoundsEnd, SettlesBy, SolvedBy, NewtonStep, Counts, GoesOn, Rounded, Made, RoundsOn, LeavesOff}
+use Rattle.newton.proofs.Written.{written_tail}
 
 module _ {K : Type 0} (k : Algebra K) (size : Size) where
   abbrev n : ℕ
@@ -27,16 +27,6 @@ module _ {K : Type 0} (k : Algebra K) (size : Size) where
   grid_kept zero s s' made = ap (λ x. drop (n * n) x.grid) made
   grid_kept (suc j) s s' made =
       written_tail (λ r. k.zero) (n * n) made.0.grid s'.grid made.3.cleared.grid ∙ grid_kept j s made.0 made.1
-
-  -- a step keeps the room that the slices have
-  pub room_kept : (s s' : SlicesOf K) → HasRoom size s → NewtonStep k size s s' → HasRoom size s'
-  room_kept s s' room step = record {
-    branches = omega (arith, room.branches, ap length step.cleared.branches);
-    weights = omega (arith, room.weights, ap length step.cleared.weights);
-    values = omega (arith, room.values, step.places);
-    column = omega (arith, room.column, written_size (λ r. k.zero) n s.column s'.column room.column step.cleared.column);
-    grid = omega (arith, room.grid, written_size (λ r. k.zero) (n * n) s.grid s'.grid room.grid step.cleared.grid);
-  }
 
   -- one round more
   pub round_on :
@@ -74,6 +64,17 @@ module _ {K : Type 0} (k : Algebra K) (size : Size) where
       grid = none' ∙ ap (λ l. table (λ r. k.zero) (n * n) ++ l) (grid_kept on.more s last on.made);
     };
   }
+
+-- a round that goes on where it is due
+pub rounded : {K : Type 0} (k : Algebra K) (w w' : Work) (s s' : SlicesOf K) (calls calls' : ℕ) → Passed (due_questions k w.progress.size s) → (end : Result (Unit {0}) Refusal) → GoesOn k w s calls w' s' calls' end → Rounded k w s calls w' s' calls' end
+rounded k w w' s s' calls calls' asked (Ok done) goes =
+    record { asked = (asked.0, (asked.1.0, (asked.1.1.0, (goes.0, tt)))); counts = goes.1 }
+rounded k w w' s s' calls calls' asked (Err why) goes = (
+  inr (asked.0, inr (asked.1.0, inr (asked.1.1.0, inl (λ less. omega (arith, less, goes.1), goes.0)))),
+  goes.2,
+  goes.3,
+  goes.4,
+)
 
 -- settle, from what the rounds leave and how they end
 module _ {K : Type 0} (k : Algebra K) (w w' : Work) (s s' : SlicesOf K) (calls calls' : ℕ) (asked : Passed (slice_questions k w.progress.size s)) (same : w'.progress.size ≡ w.progress.size) (left : LeavesOff k w.progress.size w.progress.rounds s calls w'.progress.rounds s' calls') where

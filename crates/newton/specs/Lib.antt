@@ -1,4 +1,5 @@
 pub mod Questions
+pub mod Bench
 pub mod Drafting
 pub mod Loading
 pub mod Slices

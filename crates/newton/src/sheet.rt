@@ -48,6 +48,7 @@ pub struct Settled {
     progress: Progress,
 }
 
+mod bench;
 mod drafting;
 mod figures;
 mod working;

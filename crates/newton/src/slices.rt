@@ -1,10 +1,8 @@
 // The slices that are lent to the calls of a sheet at work.
 ghost use Rattle.std.specs.Prelude.{◌≡◌, ◌*◌, ◌≤◌, length};
 ghost use Rattle.linear.specs.System.{entry_at};
-ghost use Rattle.equations.specs.Held.{rules_of, listed, written};
-ghost use Rattle.newton.specs.Slices.{SameLent};
+ghost use Rattle.equations.specs.Held.{written};
 
-use equations::rules::Rules;
 use script::branch::Branch;
 use semiring::Semiring;
 
@@ -26,21 +24,9 @@ pub struct Space<'v, 'c, 'g, K> {
     pub grid: &'g mut [K],
 }
 
-impl<'a, K: Semiring> Script<'a, K> {
-    // The rules of the first `held` branches.
-    pub(crate) fn rules(self, held: usize) -> Rules<'a, K>
-        requires branches { held ≤ length self.branches.now }
-        requires weights { held ≤ length self.weights.now }
-        ensures { listed K.algebra result
-            ≡ rules_of K.algebra held self.entry.branches.now self.entry.weights.now }
-    {
-        Rules::held(held, self.branches, self.weights)
-    }
-}
-
 // Fills the first places with zero.
 #[tactic(auto, using(equations::proofs::Slices::written_more))]
-fn clear<K: Semiring>(places: usize, items: &mut [K])
+pub(crate) fn clear<K: Semiring>(places: usize, items: &mut [K])
     requires { places ≤ length items.old }
     ensures { items.new ≡ written (λ r. K.algebra.zero) places items.old }
 {
@@ -72,22 +58,4 @@ pub(crate) fn take_over<K: Semiring>(n: usize, values: &mut [K], column: &mut [K
     copy(n, column, values);
     clear(n, column);
     clear(n * n, grid);
-}
-
-impl<K: Semiring> Space<'_, '_, '_, K> {
-    // Fills the first n places of the column and the first n × n of the grid with zero.
-    pub(crate) fn clear(&mut self, n: usize)
-        requires few { n ≤ 32 }
-        requires column { n ≤ length self.old.column.now }
-        requires grid { n * n ≤ length self.old.grid.now }
-        ensures values { self.new.values.now ≡ self.old.values.now }
-        ensures column { self.new.column.now
-            ≡ written (λ r. K.algebra.zero) n self.old.column.now }
-        ensures grid { self.new.grid.now
-            ≡ written (λ i. K.algebra.zero) (n * n) self.old.grid.now }
-        ensures lent { SameLent self.old self.new }
-    {
-        clear(n, self.column);
-        clear(n * n, self.grid);
-    }
 }

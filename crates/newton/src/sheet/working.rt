@@ -8,10 +8,12 @@ ghost use Rattle.newton.specs.Questions.{Asked};
 ghost use Rattle.newton.specs.Slices.{beside, slices, SameLent};
 ghost use Rattle.newton.specs.Working.{Sound, AllSound, HasRoom, slice_questions, due_questions, close_questions, Started, Climbed, Closed, Lifts, NewtonStep, GoesOn, SolvedBy, Rounded, RoundsOn, RoundsEnd, SettlesBy};
 
+use super::bench::Bench;
 use super::drafting::names_below;
 use super::{Draft, Progress, Settled, Size, Work};
 use crate::refusal::Refusal;
-use crate::slices::{Script, Space, take_over};
+use crate::slices::{Script, Space, clear};
+use equations::rules::Rules;
 use linear::solver::Solver;
 use script::branch::Branch;
 use semiring::Semiring;
@@ -60,7 +62,16 @@ fn ready<K: Semiring>(
     Ok(())
 }
 
-// The questions on a script and a space, in order.
+// Whether the values solve the equations of the held rules. Column and grid have no part in that.
+pub(super) fn solved<K: Semiring>(size: Size, script: Script<'_, K>, values: &[K]) -> bool
+    requires branches { size.held ≤ length script.branches.now }
+    requires weights { size.held ≤ length script.weights.now }
+    ensures { IsTrue result ↔ SolvedBy K.algebra size (beside script.entry values.now [] []) }
+{
+    Rules::held(size.held, script.branches, script.weights).solves(size.n, values)
+}
+
+// The same on a script and a space.
 fn ready_in<K: Semiring>(
     size: Size,
     script: Script<'_, K>,
@@ -69,23 +80,6 @@ fn ready_in<K: Semiring>(
     ensures { Asked (slice_questions K.algebra size (slices script.entry space.now)) result }
 {
     ready(size, script, space.values, space.column, space.grid)
-}
-
-// Whether the values solve the equations of the held rules. Column and grid have no part in that.
-fn solved<K: Semiring>(size: Size, script: Script<'_, K>, values: &[K]) -> bool
-    requires branches { size.held ≤ length script.branches.now }
-    requires weights { size.held ≤ length script.weights.now }
-    ensures { IsTrue result ↔ SolvedBy K.algebra size (beside script.entry values.now [] []) }
-{
-    script.rules(size.held).solves(size.n, values)
-}
-
-// The same of the values of a space.
-fn solved_in<K: Semiring>(size: Size, script: Script<'_, K>, space: &Space<'_, '_, '_, K>) -> bool
-    requires { HasRoom size (slices script space.now) }
-    ensures { IsTrue result ↔ SolvedBy K.algebra size (slices script.entry space.now) }
-{
-    solved(size, script, space.values)
 }
 
 // The questions of the calls that go on, in order.
@@ -97,7 +91,7 @@ fn due<K: Semiring>(
     ensures { Asked (due_questions K.algebra size (slices script.entry space.now)) result }
 {
     ready_in(size, script, space)?;
-    if solved_in(size, script, space) {
+    if solved(size, script, space.values) {
         return Err(Refusal::Solved);
     }
     Ok(())
@@ -119,8 +113,9 @@ impl Draft {
     {
         let size = self.size;
         ready_in(size, script, space)?;
-        script.rules(size.held).image(size.n, &[], space.values);
-        space.clear(size.n);
+        Rules::held(size.held, script.branches, script.weights).image(size.n, &[], space.values);
+        clear(size.n, space.column);
+        clear(size.n * size.n, space.grid);
         Ok(Work {
             progress: Progress::new(size),
         })
@@ -142,7 +137,12 @@ impl Draft {
 }
 
 // Has a solver solve a system that it takes.
-fn solve<K: Semiring, S: Solver>(solver: &mut S, n: usize, grid: &mut [K], column: &mut [K])
+pub(super) fn solve<K: Semiring, S: Solver>(
+    solver: &mut S,
+    n: usize,
+    grid: &mut [K],
+    column: &mut [K],
+)
     requires { Fits n grid.old column.old }
     ensures { Accepted K.Semiring.algebra n
         (S.Solver.calls solver.old) grid.old column.old
@@ -154,50 +154,6 @@ fn solve<K: Semiring, S: Solver>(solver: &mut S, n: usize, grid: &mut [K], colum
     }
 }
 
-// Replaces the values by f of the values.
-// Kept: the slices of a space stand apart here and in step: what lies behind a `&mut` to a space is
-// not known to stay while one of its slices is read and another written (tried with the space).
-#[tactic(auto, using(crate::proofs::Ruled::lifting))]
-fn lift<K: Semiring>(
-    size: Size,
-    script: Script<'_, K>,
-    values: &mut [K],
-    column: &mut [K],
-    grid: &mut [K],
-)
-    requires { HasRoom size (beside script values.old column.old grid.old) }
-    ensures { Lifts K.algebra size
-        (beside script.entry values.old column.old grid.old)
-        (beside script.entry values.new column.new grid.new) }
-{
-    let n = size.n;
-    script.rules(size.held).image(n, values, column);
-    take_over(n, values, column, grid);
-}
-
-// One Newton round.
-fn step<K: Semiring, S: Solver>(
-    solver: &mut S,
-    size: Size,
-    script: Script<'_, K>,
-    values: &mut [K],
-    column: &mut [K],
-    grid: &mut [K],
-)
-    requires { HasRoom size (beside script values.old column.old grid.old) }
-    ensures step { NewtonStep K.Semiring.algebra size
-        (beside script.entry values.old column.old grid.old)
-        (beside script.entry values.new column.new grid.new) }
-    ensures calls { S.Solver.calls solver.new ≡ one_more (S.Solver.calls solver.old) }
-{
-    let n = size.n;
-    let rules = script.rules(size.held);
-    rules.image(n, values, column);
-    rules.slopes(n, values, grid);
-    solve(solver, n, grid, column);
-    take_over(n, values, column, grid);
-}
-
 // The settled sheet, if the rounds ended well.
 fn settled_after(progress: Progress, end: Result<(), Refusal>) -> Result<Settled, Refusal>
     ensures { result ≡ result_and end (Ok (record { progress = progress })) }
@@ -206,59 +162,6 @@ fn settled_after(progress: Progress, end: Result<(), Refusal>) -> Result<Settled
 }
 
 impl Work {
-    // Makes a round, if fewer have been made than there are routines.
-    fn go_on<K: Semiring, S: Solver>(
-        &mut self,
-        solver: &mut S,
-        script: Script<'_, K>,
-        space: &mut Space<'_, '_, '_, K>,
-    ) -> Result<(), Refusal>
-        requires { HasRoom self.old.progress.size (slices script space.old) }
-        ensures goes { GoesOn K.Semiring.algebra
-            self.old (slices script.entry space.old) (S.Solver.calls solver.old)
-            self.new (slices script.entry space.new) (S.Solver.calls solver.new)
-            result }
-        ensures lent { SameLent space.old space.new }
-    {
-        let progress = &mut self.progress;
-        let size = progress.size;
-        if progress.rounds >= size.n {
-            return Err(Refusal::Rounds);
-        }
-        let Space {
-            values,
-            column,
-            grid,
-        } = space;
-        step(solver, size, script, values, column, grid);
-        progress.rounds += 1;
-        Ok(())
-    }
-
-    // Makes rounds as long as the values do not solve the equations.
-    fn make_rounds<K: Semiring, S: Solver>(
-        &mut self,
-        solver: &mut S,
-        script: Script<'_, K>,
-        space: &mut Space<'_, '_, '_, K>,
-    ) -> Result<(), Refusal>
-        requires { HasRoom self.old.progress.size (slices script space.old) }
-        ensures size { self.new.progress.size ≡ self.old.progress.size }
-        ensures rounds { RoundsOn K.Semiring.algebra self.old.progress.size
-            self.old.progress.rounds (slices script.entry space.old) (S.Solver.calls solver.old)
-            self.new.progress.rounds (slices script.entry space.new) (S.Solver.calls solver.new) }
-        ensures end { RoundsEnd K.Semiring.algebra self.old.progress.size
-            self.new.progress.rounds (slices script.entry space.new) result }
-        ensures room { HasRoom self.old.progress.size (slices script.entry space.new) }
-        ensures lent { SameLent space.old space.new }
-    {
-        let size = self.progress.size;
-        while !solved_in(size, script, space) {
-            self.go_on(solver, script, space)?;
-        }
-        Ok(())
-    }
-
     // Replaces the values by the least solution of the linear system at them.
     pub fn round<K: Semiring, S: Solver>(
         &mut self,
@@ -273,7 +176,16 @@ impl Work {
         ensures lent { SameLent space.old space.new }
     {
         due(self.progress.size, script, space)?;
-        self.go_on(solver, script, space)
+        let mut bench = Bench {
+            progress: self.progress,
+            script,
+            values: &mut *space.values,
+            column: &mut *space.column,
+            grid: &mut *space.grid,
+        };
+        let end = bench.go_on(solver);
+        self.progress = bench.progress;
+        end
     }
 
     // Replaces the values by f of the values.
@@ -286,14 +198,15 @@ impl Work {
             (slices script.entry space.old) (slices script.entry space.new) result }
         ensures lent { SameLent space.old space.new }
     {
-        let size = self.progress.size;
-        due(size, script, space)?;
-        let Space {
-            values,
-            column,
-            grid,
-        } = space;
-        lift(size, script, values, column, grid);
+        due(self.progress.size, script, space)?;
+        let mut bench = Bench {
+            progress: self.progress,
+            script,
+            values: &mut *space.values,
+            column: &mut *space.column,
+            grid: &mut *space.grid,
+        };
+        bench.lift();
         Ok(())
     }
 
@@ -314,10 +227,17 @@ impl Work {
             (Err (self.new, why))) }
         ensures lent { SameLent space.old space.new }
     {
-        let size = self.progress.size;
-        ready_in(size, script, space)?;
-        let end = self.make_rounds(solver, script, space);
-        space.clear(size.n);
+        ready_in(self.progress.size, script, space)?;
+        let mut bench = Bench {
+            progress: self.progress,
+            script,
+            values: &mut *space.values,
+            column: &mut *space.column,
+            grid: &mut *space.grid,
+        };
+        let end = bench.make_rounds(solver);
+        self.progress = bench.progress;
+        bench.clear();
         settled_after(self.progress, end)
     }
 

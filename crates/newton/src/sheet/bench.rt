@@ -1,0 +1,126 @@
+// A sheet at work on the slices that are lent to a call.
+ghost use Rattle.std.specs.Prelude.{◌≡◌, ◌*◌, ◌↔◌, IsTrue};
+ghost use Rattle.equations.specs.Held.{written};
+ghost use Rattle.linear.specs.Solved.{Fits, Accepted, one_more};
+ghost use Rattle.newton.specs.Slices.{beside};
+ghost use Rattle.newton.specs.Working.{HasRoom, Lifts, NewtonStep, GoesOn, SolvedBy, RoundsOn, RoundsEnd};
+
+use super::Progress;
+use super::working::{solve, solved};
+use crate::refusal::Refusal;
+use crate::slices::{Script, clear, take_over};
+use equations::rules::Rules;
+use linear::solver::Solver;
+use semiring::Semiring;
+
+// How far the sheet has come, its script, and the slices of a space, with room for the work.
+#[derive(Drop)]
+pub(super) struct Bench<'a, 'v, 'c, 'g, K> {
+    pub progress: Progress,
+    pub script: Script<'a, K>,
+    pub values: &'v mut [K],
+    pub column: &'c mut [K],
+    pub grid: &'g mut [K],
+    ghost room: { HasRoom progress.size (beside script values.now column.now grid.now) },
+}
+
+impl<K: Semiring> Bench<'_, '_, '_, '_, K> {
+    ghost use Rattle.newton.specs.Bench.{laid, sheet_of, SameBench};
+
+    // Whether the values solve the equations of the held rules.
+    pub fn solved(&self) -> bool
+        ensures { IsTrue result ↔ SolvedBy K.algebra self.now.progress.size (laid self.now) }
+    {
+        solved(self.progress.size, self.script, self.values)
+    }
+
+    // Fills the first n places of the column and the first n × n of the grid with zero.
+    pub fn clear(&mut self)
+        ensures values { self.new.values.now ≡ self.old.values.now }
+        ensures column { let n = self.old.progress.size.n in
+            self.new.column.now ≡ written (λ r. K.algebra.zero) n self.old.column.now }
+        ensures grid { let n = self.old.progress.size.n in
+            self.new.grid.now ≡ written (λ i. K.algebra.zero) (n * n) self.old.grid.now }
+        ensures same { SameBench self.old self.new }
+    {
+        let n = self.progress.size.n;
+        clear(n, self.column);
+        clear(n * n, self.grid);
+    }
+
+    // Replaces the values by f of the values.
+    #[tactic(auto, using(crate::proofs::Ruled::lifting))]
+    pub fn lift(&mut self)
+        ensures lifts { Lifts K.algebra self.old.progress.size (laid self.old) (laid self.new) }
+        ensures progress { self.new.progress ≡ self.old.progress }
+        ensures same { SameBench self.old self.new }
+    {
+        let Bench {
+            progress,
+            script,
+            values,
+            column,
+            grid,
+        } = self;
+        let values: &mut [K] = values;
+        let n = progress.size.n;
+        let rules = Rules::held(progress.size.held, script.branches, script.weights);
+        rules.image(n, values, column);
+        take_over(n, values, column, grid);
+    }
+
+    // One Newton round.
+    fn step<S: Solver>(&mut self, solver: &mut S)
+        ensures step { NewtonStep K.Semiring.algebra
+            self.old.progress.size (laid self.old) (laid self.new) }
+        ensures calls { S.Solver.calls solver.new ≡ one_more (S.Solver.calls solver.old) }
+        ensures progress { self.new.progress ≡ self.old.progress }
+        ensures same { SameBench self.old self.new }
+    {
+        let Bench {
+            progress,
+            script,
+            values,
+            column,
+            grid,
+        } = self;
+        let values: &mut [K] = values;
+        let n = progress.size.n;
+        let rules = Rules::held(progress.size.held, script.branches, script.weights);
+        rules.image(n, values, column);
+        rules.slopes(n, values, grid);
+        solve(solver, n, grid, column);
+        take_over(n, values, column, grid);
+    }
+
+    // Makes a round, if fewer have been made than there are routines.
+    pub fn go_on<S: Solver>(&mut self, solver: &mut S) -> Result<(), Refusal>
+        ensures goes { GoesOn K.Semiring.algebra
+            (sheet_of self.old) (laid self.old) (S.Solver.calls solver.old)
+            (sheet_of self.new) (laid self.new) (S.Solver.calls solver.new)
+            result }
+        ensures same { SameBench self.old self.new }
+    {
+        if self.progress.rounds >= self.progress.size.n {
+            return Err(Refusal::Rounds);
+        }
+        self.step(solver);
+        self.progress.rounds += 1;
+        Ok(())
+    }
+
+    // Makes rounds as long as the values do not solve the equations.
+    pub fn make_rounds<S: Solver>(&mut self, solver: &mut S) -> Result<(), Refusal>
+        ensures rounds { RoundsOn K.Semiring.algebra self.old.progress.size
+            self.old.progress.rounds (laid self.old) (S.Solver.calls solver.old)
+            self.new.progress.rounds (laid self.new) (S.Solver.calls solver.new) }
+        ensures end { RoundsEnd K.Semiring.algebra self.old.progress.size
+            self.new.progress.rounds (laid self.new) result }
+        ensures same { SameBench self.old self.new }
+    {
+        while !self.solved() {
+            self.go_on(solver)?;
+        }
+        Ok(())
+    }
+}
