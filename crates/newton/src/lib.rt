@@ -5,6 +5,8 @@
 pub mod refusal;
 mod sheet;
 mod slices;
+#[cfg(test)]
+mod tests;
 
 pub use sheet::{Draft, Settled, Work};
 pub use slices::{Script, Space};
