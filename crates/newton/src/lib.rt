@@ -2,6 +2,7 @@
 // settled once its figures can be read.
 #![tactic(auto)]
 
+pub mod figures;
 pub mod refusal;
 mod sheet;
 mod slices;

@@ -1,0 +1,117 @@
+-- The worked figures of the sheet, one after the other.
+use Rattle.std.proofs.Common.{◌≡◌, ℕ, zero, suc, ◌≤◌, length, take, List, [], ◌∷◌, ◌++◌, refl, ap, arith}
+use Rattle.linear.specs.System.{entry_at, right_side}
+use Rattle.equations.specs.Rule.{Rule}
+use Rattle.equations.specs.Equations.{image, slope}
+use Rattle.equations.proofs.FourRoutines.{image_least}
+use Rattle.kinds.specs.declared.weights.Bounded.{Bounded}
+use Rattle.kinds.specs.declared.weights.Least.{Least as Weight}
+use Rattle.kinds.specs.declared.weights.Least.TheVariants as least
+use Rattle.kinds.specs.declared.weights.Most.TheVariants as most
+use Rattle.kinds.specs.Least as Least
+use Rattle.kinds.specs.Most as Most
+use Rattle.kinds.specs.Laws.Alike.{alike}
+use Rattle.kinds.specs.Laws.Least.{least_algebra}
+use Rattle.kinds.specs.Laws.Most.{most_algebra}
+use Rattle.kinds.specs.Figures.{Hold}
+use Rattle.newton.specs.Figures.{chain, chain_started, chain_once, chain_solved, waiting, endless, StartGives, RoundGives, ClimbGives, RoundRefused, CloseGives, SettleGives}
+use Rattle.newton.proofs.Worked.{Each, each, rules, Settle, Moves, Stepped, start_gives, climb_gives, round_gives, round_refused, close_gives, settle_gives}
+
+pub hold_all : (xs ys : List (Type 0)) → Hold xs → Hold ys → Hold (xs ++ ys)
+hold_all [] ys hold rest = rest
+hold_all (x ∷ xs) ys hold rest = (hold.0, hold_all xs ys hold.1 rest)
+
+-- A round from values of the chain, where f of them solves the linear system there.
+abbrev script : List (Rule Weight)
+script = rules least_algebra Least.weight 3 chain
+
+chain_round :
+    (before after : List Weight) → 3 ≤ length after → take 3 after ≡ after →
+    ((rest : List Weight) → Each 3 (λ r. entry_at least_algebra after r ≡ image least_algebra script (entry_at least_algebra (before ++ rest)) r)) →
+    ((rest : List Weight) → Each 3 (λ r. entry_at least_algebra after r ≡ right_side least_algebra 3 (slope least_algebra script (entry_at least_algebra (before ++ rest))) (image least_algebra script (entry_at least_algebra (before ++ rest))) (entry_at least_algebra after) r)) →
+    Stepped least_algebra Least.weight 3 chain before after
+chain_round before after long whole is solves = record {
+  long = long;
+  whole = whole;
+  least = λ rest. image_least least_algebra 3 script (entry_at least_algebra (before ++ rest)) (entry_at least_algebra after) (each 3 _ (is rest)) (each 3 _ (solves rest));
+}
+
+-- two bounded numbers of one value
+same : (a b : Bounded 65534) → a.value ≡ b.value → least.Seconds a ≡ least.Seconds b
+same a b e = ap least.Seconds (alike a b e)
+
+first_round : Stepped least_algebra Least.weight 3 chain chain_started chain_once
+first_round =
+    chain_round chain_started chain_once (omega arith) refl (λ rest. (refl, (refl, (refl, tt)))) (λ rest. (refl, (same _ _ refl, (refl, tt))))
+
+second_round : Stepped least_algebra Least.weight 3 chain chain_once chain_solved
+second_round =
+    chain_round chain_once chain_solved (omega arith) refl (λ rest. (refl, (refl, (refl, tt)))) (λ rest. (same _ _ refl, (same _ _ refl, (refl, tt))))
+
+chain_settles : Settle least_algebra Least.weight 3 chain chain_solved
+chain_settles rest = each 3 _ (refl, (refl, (refl, tt)))
+
+-- never is no number of seconds
+some_seconds : (b : Bounded 65534) → least.Never ≡ least.Seconds b → ⊥
+some_seconds b e = cc
+
+started_moves : Moves least_algebra Least.weight 3 chain chain_started
+started_moves rest solves = some_seconds _ (solves 1 (omega arith))
+
+once_moves : Moves least_algebra Least.weight 3 chain chain_once
+once_moves rest solves = some_seconds _ (solves 0 (omega arith))
+
+abbrev chain_path : ℕ → List Weight
+chain_path zero = chain_started
+chain_path (suc zero) = chain_once
+chain_path (suc (suc j)) = chain_solved
+
+waiting_settles : Settle most_algebra Most.weight 1 waiting (Most.seconds 4 ∷ [])
+waiting_settles rest = each 1 _ (ap most.Seconds (alike _ _ refl), tt)
+
+endless_settles : Settle least_algebra Least.weight 1 endless (Least.zero ∷ [])
+endless_settles rest = each 1 _ (refl, tt)
+
+nothing_settles : Settle least_algebra Least.weight 0 [] []
+nothing_settles rest = each 0 _ tt
+
+pub chain_start : StartGives least_algebra Least.weight 3 chain chain_started
+chain_start = start_gives least_algebra Least.weight 3 chain chain_started refl
+
+pub chain_first : RoundGives least_algebra Least.weight 3 chain 0 chain_started chain_once
+chain_first = round_gives least_algebra Least.weight 3 chain 0 chain_started chain_once first_round
+
+pub chain_second : RoundGives least_algebra Least.weight 3 chain 1 chain_once chain_solved
+chain_second = round_gives least_algebra Least.weight 3 chain 1 chain_once chain_solved second_round
+
+pub chain_climb : ClimbGives least_algebra Least.weight 3 chain 1 chain_once chain_solved
+chain_climb = climb_gives least_algebra Least.weight 3 chain 1 chain_once chain_solved (λ rest. refl)
+
+pub waiting_start : StartGives most_algebra Most.weight 1 waiting (Most.seconds 4 ∷ [])
+waiting_start = start_gives most_algebra Most.weight 1 waiting (Most.seconds 4 ∷ []) refl
+
+pub waiting_round : RoundRefused most_algebra Most.weight 1 waiting 0 (Most.seconds 4 ∷ [])
+waiting_round = round_refused most_algebra Most.weight 1 waiting 0 (Most.seconds 4 ∷ []) waiting_settles
+
+pub waiting_close : CloseGives most_algebra Most.weight 1 waiting 0 (Most.seconds 4 ∷ [])
+waiting_close = close_gives most_algebra Most.weight 1 waiting 0 (Most.seconds 4 ∷ []) refl waiting_settles
+
+pub endless_start : StartGives least_algebra Least.weight 1 endless (Least.zero ∷ [])
+endless_start = start_gives least_algebra Least.weight 1 endless (Least.zero ∷ []) refl
+
+pub endless_close : CloseGives least_algebra Least.weight 1 endless 0 (Least.zero ∷ [])
+endless_close = close_gives least_algebra Least.weight 1 endless 0 (Least.zero ∷ []) refl endless_settles
+
+pub nothing_start : StartGives least_algebra Least.weight 0 [] []
+nothing_start = start_gives least_algebra Least.weight 0 [] [] refl
+
+pub nothing_close : CloseGives least_algebra Least.weight 0 [] 0 []
+nothing_close = close_gives least_algebra Least.weight 0 [] 0 [] refl nothing_settles
+
+pub chain_settle : SettleGives least_algebra Least.weight 3 chain 0 chain_started 2 chain_solved
+chain_settle =
+    settle_gives least_algebra Least.weight 3 chain chain_path 2 (each 2 _ ((started_moves, first_round), ((once_moves, second_round), tt))) chain_settles 0 (omega arith) refl
+
+pub chain_climbed : SettleGives least_algebra Least.weight 3 chain 1 chain_solved 1 chain_solved
+chain_climbed =
+    settle_gives least_algebra Least.weight 3 chain (λ j. chain_solved) 0 (λ j l. absurd (omega arith)) chain_settles 1 (omega arith) refl
