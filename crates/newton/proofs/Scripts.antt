@@ -21,16 +21,27 @@ pub hold_all : (xs ys : List (Type 0)) → Hold xs → Hold ys → Hold (xs ++ y
 hold_all [] ys hold rest = rest
 hold_all (x ∷ xs) ys hold rest = (hold.0, hold_all xs ys hold.1 rest)
 
+-- never is no number of seconds
+some_seconds : (b : Bounded 65534) → least.Never ≡ least.Seconds b → ⊥
+some_seconds b e = cc
+
+started_moves : Moves least_algebra Least.weight 3 chain chain_started
+started_moves rest solves = some_seconds _ (solves 1 (omega arith))
+
+once_moves : Moves least_algebra Least.weight 3 chain chain_once
+once_moves rest solves = some_seconds _ (solves 0 (omega arith))
+
 -- A round from values of the chain, where f of them solves the linear system there.
 abbrev script : List (Rule Weight)
 script = rules least_algebra Least.weight 3 chain
 
 chain_round :
-    (before after : List Weight) → 3 ≤ length after → take 3 after ≡ after →
+    (before after : List Weight) → Moves least_algebra Least.weight 3 chain before → 3 ≤ length after → take 3 after ≡ after →
     ((rest : List Weight) → Each 3 (λ r. entry_at least_algebra after r ≡ image least_algebra script (entry_at least_algebra (before ++ rest)) r)) →
     ((rest : List Weight) → Each 3 (λ r. entry_at least_algebra after r ≡ right_side least_algebra 3 (slope least_algebra script (entry_at least_algebra (before ++ rest))) (image least_algebra script (entry_at least_algebra (before ++ rest))) (entry_at least_algebra after) r)) →
     Stepped least_algebra Least.weight 3 chain before after
-chain_round before after long whole is solves = record {
+chain_round before after moves long whole is solves = record {
+  moves = moves;
   long = long;
   whole = whole;
   least = λ rest. image_least least_algebra 3 script (entry_at least_algebra (before ++ rest)) (entry_at least_algebra after) (each 3 _ (is rest)) (each 3 _ (solves rest));
@@ -42,24 +53,14 @@ same a b e = ap least.Seconds (alike a b e)
 
 first_round : Stepped least_algebra Least.weight 3 chain chain_started chain_once
 first_round =
-    chain_round chain_started chain_once (omega arith) refl (λ rest. (refl, (refl, (refl, tt)))) (λ rest. (refl, (same _ _ refl, (refl, tt))))
+    chain_round chain_started chain_once started_moves (omega arith) refl (λ rest. (refl, (refl, (refl, tt)))) (λ rest. (refl, (same _ _ refl, (refl, tt))))
 
 second_round : Stepped least_algebra Least.weight 3 chain chain_once chain_solved
 second_round =
-    chain_round chain_once chain_solved (omega arith) refl (λ rest. (refl, (refl, (refl, tt)))) (λ rest. (same _ _ refl, (same _ _ refl, (refl, tt))))
+    chain_round chain_once chain_solved once_moves (omega arith) refl (λ rest. (refl, (refl, (refl, tt)))) (λ rest. (same _ _ refl, (same _ _ refl, (refl, tt))))
 
 chain_settles : Settle least_algebra Least.weight 3 chain chain_solved
 chain_settles rest = each 3 _ (refl, (refl, (refl, tt)))
-
--- never is no number of seconds
-some_seconds : (b : Bounded 65534) → least.Never ≡ least.Seconds b → ⊥
-some_seconds b e = cc
-
-started_moves : Moves least_algebra Least.weight 3 chain chain_started
-started_moves rest solves = some_seconds _ (solves 1 (omega arith))
-
-once_moves : Moves least_algebra Least.weight 3 chain chain_once
-once_moves rest solves = some_seconds _ (solves 0 (omega arith))
 
 abbrev chain_path : ℕ → List Weight
 chain_path zero = chain_started
@@ -79,13 +80,13 @@ pub chain_start : StartGives least_algebra Least.weight 3 chain chain_started
 chain_start = start_gives least_algebra Least.weight 3 chain chain_started refl
 
 pub chain_first : RoundGives least_algebra Least.weight 3 chain 0 chain_started chain_once
-chain_first = round_gives least_algebra Least.weight 3 chain 0 chain_started chain_once first_round
+chain_first = round_gives least_algebra Least.weight 3 chain 0 (omega arith) chain_started chain_once first_round
 
 pub chain_second : RoundGives least_algebra Least.weight 3 chain 1 chain_once chain_solved
-chain_second = round_gives least_algebra Least.weight 3 chain 1 chain_once chain_solved second_round
+chain_second = round_gives least_algebra Least.weight 3 chain 1 (omega arith) chain_once chain_solved second_round
 
 pub chain_climb : ClimbGives least_algebra Least.weight 3 chain 1 chain_once chain_solved
-chain_climb = climb_gives least_algebra Least.weight 3 chain 1 chain_once chain_solved (λ rest. refl)
+chain_climb = climb_gives least_algebra Least.weight 3 chain 1 chain_once chain_solved once_moves (λ rest. refl)
 
 pub waiting_start : StartGives most_algebra Most.weight 1 waiting (Most.seconds 4 ∷ [])
 waiting_start = start_gives most_algebra Most.weight 1 waiting (Most.seconds 4 ∷ []) refl
@@ -110,7 +111,7 @@ nothing_close = close_gives least_algebra Least.weight 0 [] 0 [] refl nothing_se
 
 pub chain_settle : SettleGives least_algebra Least.weight 3 chain 0 chain_started 2 chain_solved
 chain_settle =
-    settle_gives least_algebra Least.weight 3 chain chain_path 2 (each 2 _ ((started_moves, first_round), ((once_moves, second_round), tt))) chain_settles 0 (omega arith) refl
+    settle_gives least_algebra Least.weight 3 chain chain_path 2 (each 2 _ (first_round, (second_round, tt))) chain_settles 0 (omega arith) refl
 
 pub chain_climbed : SettleGives least_algebra Least.weight 3 chain 1 chain_solved 1 chain_solved
 chain_climbed =

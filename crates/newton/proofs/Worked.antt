@@ -15,7 +15,7 @@ use Rattle.newton.specs.declared.sheet.Size.{Size}
 use Rattle.newton.specs.declared.sheet.Settled.{Settled}
 use Rattle.newton.specs.Questions.{Question, Passed, Refused}
 use Rattle.newton.specs.Slices.{SlicesOf}
-use Rattle.newton.specs.Working.{held_rules, values_of, AllSound, SolvedBy, slice_questions, close_questions, round_questions, Cleared, Figured, NewtonStep, Made, LeavesOff}
+use Rattle.newton.specs.Working.{held_rules, values_of, AllSound, SolvedBy, slice_questions, due_questions, close_questions, round_questions, Cleared, Figured, NewtonStep, Made, LeavesOff}
 use Rattle.newton.specs.Figures.{figure_of, Reads, Holds, StartGives, RoundGives, ClimbGives, RoundRefused, CloseGives, SettleGives}
 use Rattle.newton.proofs.Settling.{room_still}
 use Rattle.newton.proofs.Written.{table_read, written_size}
@@ -91,6 +91,7 @@ module _ {K : Type 0} (k : Algebra K) (weight : Branch → K) (n : ℕ) (script 
   Lifted before after = (rest : List K) → table (image k rules (entry_at k (before ++ rest))) n ≡ after
 
   pub record Stepped (before after : List K) : Type 0 where
+    pub moves : Moves before
     pub long : n ≤ length after
     pub whole : take n after ≡ after
     pub least : (rest : List K) → Least k n (slope k rules (entry_at k (before ++ rest))) (image k rules (entry_at k (before ++ rest))) (entry_at k after)
@@ -132,31 +133,49 @@ module _ {K : Type 0} (k : Algebra K) (weight : Branch → K) (n : ℕ) (script 
         figures_are routine (Err why) (inr (room, inr none)) = absurd none.1
 
   pub start_gives : (after : List K) → table (image k rules (λ r. k.zero)) n ≡ after → StartGives k weight n script after
-  start_gives after gives d s w s' h started = record {
-    holds = subst (λ size. Held size s') (sym started.size) (kept d.size s s' h (omega (arith, h.asked.0.values, written_size _ d.size.n s.values s'.values h.asked.0.values started.values)) started.cleared);
-    rounds_are = started.rounds;
-    values_are = front _ d.size.n s.values s'.values h.routines started.values ∙ known (λ m rs vs. table (image k rs (λ r. k.zero)) m ≡ after) d.size s (take n s.values) h refl (λ rest. gives);
-  }
+  start_gives after gives d s (Ok w) s' h started =
+      let room : d.size.n ≤ length s'.values = omega (arith, h.asked.0.values, written_size _ d.size.n s.values s'.values h.asked.0.values started.values) in (
+        w,
+        refl,
+        record {
+          holds = subst (λ size. Held size s') (sym started.size) (kept d.size s s' h room started.cleared);
+          rounds_are = started.rounds;
+          values_are = front _ d.size.n s.values s'.values h.routines started.values ∙ known (λ m rs vs. table (image k rs (λ r. k.zero)) m ≡ after) d.size s (take n s.values) h refl (λ rest. gives);
+        },
+      )
+  start_gives after gives d s (Err e) s' h refused = absurd (not_refused (slice_questions k d.size s) e.1 h.asked refused.0)
 
-  pub climb_gives : (rounds : ℕ) (before after : List K) → Lifted before after → ClimbGives k weight n script rounds before after
-  climb_gives rounds before after gives w s s' st climbed =
-      let size = w.progress.size in
+  pub climb_gives : (rounds : ℕ) (before after : List K) → Moves before → Lifted before after → ClimbGives k weight n script rounds before after
+  climb_gives rounds before after moves gives w s s' (Ok done) st climbed =
+      let h = st.holds in
+      let n' = w.progress.size.n in
       let is = climbed.lifts in
-      record {
-        holds = kept size s s' st.holds (omega (arith, st.holds.asked.0.values, written_size _ size.n s.values s'.values st.holds.asked.0.values is.values)) is.cleared;
-        rounds_are = st.rounds_are;
-        values_are = lifted size s before st.holds st.values_are s' after gives is.values;
-      }
+      let room : n' ≤ length s'.values = omega (arith, h.asked.0.values, written_size _ n' s.values s'.values h.asked.0.values is.values) in (
+        refl,
+        record {
+          holds = kept w.progress.size s s' h room is.cleared;
+          rounds_are = st.rounds_are;
+          values_are = lifted w.progress.size s before h st.values_are s' after gives is.values;
+        },
+      )
+  climb_gives rounds before after moves gives w s s' (Err why) st refused =
+      absurd (not_refused (due_questions k w.progress.size s) why (st.holds.asked.0, (st.holds.asked.1.0, (unsolved w.progress.size s before st.holds st.values_are moves, tt))) refused.0)
 
-  pub round_gives : (rounds : ℕ) (before after : List K) → Stepped before after → RoundGives k weight n script rounds before after
-  round_gives rounds before after gives w s calls w' s' calls' st rounded =
+  pub round_gives : (rounds : ℕ) → rounds < n → (before after : List K) → Stepped before after → RoundGives k weight n script rounds before after
+  round_gives rounds few before after st' w s calls w' s' calls' (Ok done) st rounded =
       let counts = rounded.counts in
-      let new = stepped w.progress.size s before st.holds st.values_are s' after gives counts.step in
-      record {
-        holds = subst (λ size. Held size s') (sym counts.size) new.0;
-        rounds_are = counts.rounds ∙ ap (λ m. m + 1) st.rounds_are;
-        values_are = new.1;
-      }
+      let new = stepped w.progress.size s before st.holds st.values_are s' after st' counts.step in (
+        refl,
+        record {
+          holds = subst (λ size. Held size s') (sym counts.size) new.0;
+          rounds_are = counts.rounds ∙ ap (λ m. m + 1) st.rounds_are;
+          values_are = new.1;
+        },
+      )
+  round_gives rounds few before after st' w s calls w' s' calls' (Err why) st refused =
+      let due = unsolved w.progress.size s before st.holds st.values_are st'.moves in
+      let left : w.progress.rounds < w.progress.size.n = omega (arith, few, st.rounds_are, st.holds.routines) in
+      absurd (not_refused (round_questions k w s) why (st.holds.asked.0, (st.holds.asked.1.0, (due, (left, tt)))) refused.0)
 
   pub round_refused : (rounds : ℕ) (values : List K) → Settle values → RoundRefused k weight n script rounds values
   round_refused rounds values settle w s calls w' s' calls' (Ok done) st rounded =
@@ -179,7 +198,7 @@ module _ {K : Type 0} (k : Algebra K) (weight : Branch → K) (n : ℕ) (script 
       absurd (not_refused (close_questions k w s) e.1 (st.holds.asked.0, (st.holds.asked.1.0, (solved w.progress.size s values st.holds st.values_are settle, tt))) refused.0)
 
   -- Values that rounds go through one after the other, to the last ones, which solve the equations.
-  module _ (path : ℕ → List K) (last : ℕ) (moves : (j : ℕ) → j < last → Moves (path j) × Stepped (path j) (path (suc j))) (settle : Settle (path last)) where
+  module _ (path : ℕ → List K) (last : ℕ) (steps : (j : ℕ) → j < last → Stepped (path j) (path (suc j))) (settle : Settle (path last)) where
     pub record At (size : Size) (j : ℕ) (s : SlicesOf K) : Type 0 where
       pub within : j ≤ last
       pub holds : Held size s
@@ -194,7 +213,7 @@ module _ {K : Type 0} (k : Algebra K) (weight : Branch → K) (n : ℕ) (script 
     made_at size s h is (suc j) s' made =
         let mid = made_at size s h is j made.0 made.1 in
         let more : j < last = lt_of_not-le (λ past. let e : j ≡ last = omega (arith, mid.within, past) in made.2 (solved size made.0 (path last) mid.holds (mid.values_are ∙ ap path e) settle)) in
-        let new = stepped size made.0 (path j) mid.holds mid.values_are s' (path (suc j)) (moves j more).1 made.3 in
+        let new = stepped size made.0 (path j) mid.holds mid.values_are s' (path (suc j)) (steps j more) made.3 in
         record { within = more; holds = new.0; values_are = new.1 }
 
     -- what settle leaves
@@ -213,7 +232,7 @@ module _ {K : Type 0} (k : Algebra K) (weight : Branch → K) (n : ℕ) (script 
         let left = settled.left in
         let j = left.rounds_on.more in
         let at = left_at size w.progress.rounds s calls f.progress.rounds s' calls' st.holds st.values_are left in
-        let end : j ≡ last = omega (arith, at.within, lt_of_not-le (λ l. unsolved size s' (path j) at.holds at.values_are (moves j l).0 settled.solved)) in
+        let end : j ≡ last = omega (arith, at.within, lt_of_not-le (λ l. unsolved size s' (path j) at.holds at.values_are (steps j l).moves settled.solved)) in
         (f, refl, reads size s' (path last) at.holds (at.values_are ∙ ap path end) f (rounds + last) settled.size long (omega (arith, left.rounds_on.count, st.rounds_are, end)))
     settle_gives rounds few long w s calls s' calls' (Err e) st (inl refused) =
         absurd (not_refused (slice_questions k w.progress.size s) e.1 st.holds.asked refused.0)

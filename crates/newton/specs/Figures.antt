@@ -45,22 +45,22 @@ module _ {K : Type 0} (k : Algebra K) (weight : Branch → K) (n : ℕ) (script 
     pub rounds_are : w.progress.rounds ≡ rounds
     pub values_are : take n s.values ≡ values
 
-  -- Start comes to these values.
+  -- Start accepts, and comes to these values.
   abbrev pub StartGives : List K → Type 0
   StartGives values =
-      (d : Draft) (s : SlicesOf K) (w : Work) (s' : SlicesOf K) →
-      Holds d.size s → Started k d s s' (Ok w) → Stands w s' 0 values
+      (d : Draft) (s : SlicesOf K) (r : Result Work (Draft × Refusal)) (s' : SlicesOf K) →
+      Holds d.size s → Started k d s s' r → (w : Work) × (r ≡ Ok w) × Stands w s' 0 values
 
-  -- A round, or a climb, goes from values to values.
+  -- A round, or a climb, is accepted, and goes from values to values.
   abbrev pub RoundGives : ℕ → List K → List K → Type 0
   RoundGives rounds before after =
-      (w : Work) (s : SlicesOf K) (calls : ℕ) (w' : Work) (s' : SlicesOf K) (calls' : ℕ) →
-      Stands w s rounds before → Rounded k w s calls w' s' calls' (Ok tt) → Stands w' s' (rounds + 1) after
+      (w : Work) (s : SlicesOf K) (calls : ℕ) (w' : Work) (s' : SlicesOf K) (calls' : ℕ) (r : Result (Unit {0}) Refusal) →
+      Stands w s rounds before → Rounded k w s calls w' s' calls' r → (r ≡ Ok tt) × Stands w' s' (rounds + 1) after
 
   abbrev pub ClimbGives : ℕ → List K → List K → Type 0
   ClimbGives rounds before after =
-      (w : Work) (s s' : SlicesOf K) →
-      Stands w s rounds before → Climbed k w s s' (Ok tt) → Stands w s' rounds after
+      (w : Work) (s s' : SlicesOf K) (r : Result (Unit {0}) Refusal) →
+      Stands w s rounds before → Climbed k w s s' r → (r ≡ Ok tt) × Stands w s' rounds after
 
   -- A round is refused, since the values solve the equations.
   abbrev pub RoundRefused : ℕ → List K → Type 0
