@@ -14,8 +14,8 @@ use Rattle.kinds.specs.Laws.Alike.{alike}
 use Rattle.kinds.specs.Laws.Least.{least_algebra}
 use Rattle.kinds.specs.Laws.Most.{most_algebra}
 use Rattle.kinds.specs.Figures.{Hold}
-use Rattle.newton.specs.Figures.{chain, chain_started, chain_once, chain_solved, waiting, endless, StartGives, RoundGives, ClimbGives, RoundRefused, CloseGives, SettleGives}
-use Rattle.newton.proofs.Worked.{Each, each, rules, Settle, Moves, Stepped, start_gives, climb_gives, round_gives, round_refused, close_gives, settle_gives}
+use Rattle.newton.specs.Figures.{chain, chain_started, chain_once, chain_solved, waiting, endless, sheet_figures, IsHeld}
+use Rattle.newton.proofs.Worked.{Each, each, rules, Settle, Moves, Stepped, is_held, start_gives, climb_gives, round_gives, round_refused, close_gives, settle_gives}
 
 pub hold_all : (xs ys : List (Type 0)) → Hold xs → Hold ys → Hold (xs ++ ys)
 hold_all [] ys hold rest = rest
@@ -76,43 +76,65 @@ endless_settles rest = each 1 _ (refl, tt)
 nothing_settles : Settle least_algebra Least.weight 0 [] []
 nothing_settles rest = each 0 _ tt
 
-pub chain_start : StartGives least_algebra Least.weight 3 chain chain_started
-chain_start = start_gives least_algebra Least.weight 3 chain chain_started refl
+chain_held : IsHeld least_algebra Least.weight 3 chain
+chain_held =
+    is_held least_algebra Least.weight 3 chain (omega arith) (omega arith) (each 3 _ ((omega arith, (omega arith, (omega arith, (omega arith, tt)))), ((omega arith, (omega arith, (omega arith, (omega arith, tt)))), ((omega arith, (omega arith, tt)), tt))))
 
-pub chain_first : RoundGives least_algebra Least.weight 3 chain 0 chain_started chain_once
-chain_first = round_gives least_algebra Least.weight 3 chain 0 (omega arith) chain_started chain_once first_round
+waiting_held : IsHeld most_algebra Most.weight 1 waiting
+waiting_held =
+    is_held most_algebra Most.weight 1 waiting (omega arith) (omega arith) (each 2 _ ((omega arith, (omega arith, tt)), ((omega arith, (omega arith, (omega arith, tt))), tt)))
 
-pub chain_second : RoundGives least_algebra Least.weight 3 chain 1 chain_once chain_solved
-chain_second = round_gives least_algebra Least.weight 3 chain 1 (omega arith) chain_once chain_solved second_round
+endless_held : IsHeld least_algebra Least.weight 1 endless
+endless_held =
+    is_held least_algebra Least.weight 1 endless (omega arith) (omega arith) (each 1 _ ((omega arith, (omega arith, (omega arith, tt))), tt))
 
-pub chain_climb : ClimbGives least_algebra Least.weight 3 chain 1 chain_once chain_solved
-chain_climb = climb_gives least_algebra Least.weight 3 chain 1 chain_once chain_solved once_moves (λ rest. refl)
-
-pub waiting_start : StartGives most_algebra Most.weight 1 waiting (Most.seconds 4 ∷ [])
-waiting_start = start_gives most_algebra Most.weight 1 waiting (Most.seconds 4 ∷ []) refl
-
-pub waiting_round : RoundRefused most_algebra Most.weight 1 waiting 0 (Most.seconds 4 ∷ [])
-waiting_round = round_refused most_algebra Most.weight 1 waiting 0 (Most.seconds 4 ∷ []) waiting_settles
-
-pub waiting_close : CloseGives most_algebra Most.weight 1 waiting 0 (Most.seconds 4 ∷ [])
-waiting_close = close_gives most_algebra Most.weight 1 waiting 0 (Most.seconds 4 ∷ []) refl waiting_settles
-
-pub endless_start : StartGives least_algebra Least.weight 1 endless (Least.zero ∷ [])
-endless_start = start_gives least_algebra Least.weight 1 endless (Least.zero ∷ []) refl
-
-pub endless_close : CloseGives least_algebra Least.weight 1 endless 0 (Least.zero ∷ [])
-endless_close = close_gives least_algebra Least.weight 1 endless 0 (Least.zero ∷ []) refl endless_settles
-
-pub nothing_start : StartGives least_algebra Least.weight 0 [] []
-nothing_start = start_gives least_algebra Least.weight 0 [] [] refl
-
-pub nothing_close : CloseGives least_algebra Least.weight 0 [] 0 []
-nothing_close = close_gives least_algebra Least.weight 0 [] 0 [] refl nothing_settles
-
-pub chain_settle : SettleGives least_algebra Least.weight 3 chain 0 chain_started 2 chain_solved
-chain_settle =
-    settle_gives least_algebra Least.weight 3 chain chain_path 2 (each 2 _ (first_round, (second_round, tt))) chain_settles 0 (omega arith) refl
-
-pub chain_climbed : SettleGives least_algebra Least.weight 3 chain 1 chain_solved 1 chain_solved
-chain_climbed =
-    settle_gives least_algebra Least.weight 3 chain (λ j. chain_solved) 0 (λ j l. absurd (omega arith)) chain_settles 1 (omega arith) refl
+pub sheet_figures_hold : Hold sheet_figures
+sheet_figures_hold = (
+  chain_held,
+  (
+    start_gives _ _ _ _ _ refl,
+    (
+      round_gives _ _ _ _ 0 (omega arith) _ _ first_round,
+      (
+        round_gives _ _ _ _ 1 (omega arith) _ _ second_round,
+        (
+          settle_gives _ _ _ _ chain_path 2 (each 2 _ (first_round, (second_round, tt))) chain_settles 0 (omega arith) refl,
+          (
+            climb_gives _ _ _ _ 1 _ _ once_moves (λ rest. refl),
+            (
+              settle_gives _ _ _ _ (λ j. chain_solved) 0 (λ j l. absurd (omega arith)) chain_settles 1 (omega arith) refl,
+              (
+                waiting_held,
+                (
+                  start_gives _ _ _ _ _ refl,
+                  (
+                    round_refused _ _ _ _ 0 _ waiting_settles,
+                    (
+                      close_gives _ _ _ _ 0 _ refl waiting_settles,
+                      (
+                        endless_held,
+                        (
+                          start_gives _ _ _ _ _ refl,
+                          (
+                            close_gives _ _ _ _ 0 _ refl endless_settles,
+                            (
+                              is_held _ _ _ _ (omega arith) (omega arith) (λ i l. absurd (omega arith)),
+                              (
+                                start_gives _ _ _ _ _ refl,
+                                (close_gives _ _ _ _ 0 _ refl nothing_settles, tt),
+                              ),
+                            ),
+                          ),
+                        ),
+                      ),
+                    ),
+                  ),
+                ),
+              ),
+            ),
+          ),
+        ),
+      ),
+    ),
+  ),
+)

@@ -1,7 +1,9 @@
 -- What the calls leave on a script of known branches, from what they promise on any.
-use Rattle.std.proofs.Common.{◌≡◌, ℕ, zero, suc, ◌+◌, ◌<◌, ◌≤◌, List, [], ◌∷◌, ◌++◌, length, take, drop, map, Ok, Err, Result, refl, sym, ap, ap₂, ◌∙◌, subst, inl, inr, arith}
+use Rattle.std.proofs.Common.{◌≡◌, ℕ, zero, suc, ◌+◌, ◌*◌, ◌<◌, ◌≤◌, List, [], ◌∷◌, ◌++◌, length, take, drop, map, Ok, Err, Result, refl, sym, ap, ap₂, ◌∙◌, subst, inl, inr, arith}
+use Rattle.std.specs.Prelude.{slice_index_or}
 use Rattle.std.proofs.Math.Nat.{lt_of_not-le}
-use Rattle.std.proofs.lemmas.List.{take_at, take-append-drop}
+use Rattle.std.proofs.lemmas.List.{take_at, take_all, take-append-drop, length-map}
+use Rattle.std.proofs.Math.Seq.{take-length}
 use Rattle.semiring.specs.Algebra.{Algebra}
 use Rattle.script.specs.declared.branch.Branch.{Branch}
 use Rattle.script.specs.declared.refusal.sheet.SheetRefusal.{SheetRefusal as Refusal}
@@ -9,14 +11,14 @@ use Rattle.linear.specs.System.{Least, entry_at}
 use Rattle.linear.proofs.Existence.{least_unique}
 use Rattle.equations.specs.Rule.{Rule}
 use Rattle.equations.specs.Equations.{image, slope, Solves}
-use Rattle.equations.specs.Held.{table, written, rules_of}
+use Rattle.equations.specs.Held.{no_branch, table, written, rules_of}
 use Rattle.equations.proofs.Slices.{held_cut, table_ext, length-table}
 use Rattle.newton.specs.declared.sheet.Size.{Size}
 use Rattle.newton.specs.declared.sheet.Settled.{Settled}
 use Rattle.newton.specs.Questions.{Question, Passed, Refused}
 use Rattle.newton.specs.Slices.{SlicesOf}
-use Rattle.newton.specs.Working.{held_rules, values_of, AllSound, SolvedBy, slice_questions, due_questions, close_questions, round_questions, Cleared, Figured, NewtonStep, Made, LeavesOff}
-use Rattle.newton.specs.Figures.{figure_of, Reads, Holds, StartGives, RoundGives, ClimbGives, RoundRefused, CloseGives, SettleGives}
+use Rattle.newton.specs.Working.{held_rules, values_of, Sound, AllSound, SolvedBy, slice_questions, due_questions, close_questions, round_questions, Cleared, Figured, NewtonStep, Made, LeavesOff}
+use Rattle.newton.specs.Figures.{figure_of, Reads, Holds, IsHeld, StartGives, RoundGives, ClimbGives, RoundRefused, CloseGives, SettleGives}
 use Rattle.newton.proofs.Settling.{room_still}
 use Rattle.newton.proofs.Written.{table_read, written_size}
 
@@ -131,6 +133,31 @@ module _ {K : Type 0} (k : Algebra K) (weight : Branch → K) (n : ℕ) (script 
         figures_are routine (Err why) (inl short) = absurd (short.0 (omega (arith, routines, h.routines, h.asked.0.values)))
         figures_are routine (Err why) (inr (room, inl past)) = ap Err past.1 ∙ figure_past k values routine (omega (arith, routines, long, lt_of_not-le past.0))
         figures_are routine (Err why) (inr (room, inr none)) = absurd none.1
+
+  -- Slices as long as the script asks for, which hold it.
+  pub is_held : n ≤ 32 → length script ≤ 200 → ((i : ℕ) → i < length script → Sound n (slice_index_or script i no_branch)) → IsHeld k weight n script
+  is_held small few sound =
+      let zeros : ℕ → K = λ r. k.zero in
+      record {
+        size = record { n = n; held = length script; routines = small; branches = few };
+        s = record { branches = script; weights = map weight script; values = table zeros n; column = table zeros n; grid = table zeros (n * n) };
+        holds = record {
+          routines = refl;
+          held = refl;
+          branches = take-length script;
+          weights = take_all (length script) (map weight script) (omega (arith, length-map script weight));
+          asked = (
+            record {
+              branches = omega arith;
+              weights = omega (arith, length-map script weight);
+              values = omega (arith, length-table zeros n);
+              column = omega (arith, length-table zeros n);
+              grid = omega (arith, length-table zeros (n * n));
+            },
+            (sound, tt),
+          );
+        };
+      }
 
   pub start_gives : (after : List K) → table (image k rules (λ r. k.zero)) n ≡ after → StartGives k weight n script after
   start_gives after gives d s (Ok w) s' h started =

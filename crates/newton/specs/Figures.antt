@@ -39,6 +39,12 @@ module _ {K : Type 0} (k : Algebra K) (weight : Branch → K) (n : ℕ) (script 
     pub weights : take (length script) s.weights ≡ map weight script
     pub asked : Passed (slice_questions k size s)
 
+  -- Some sheet and slices hold it.
+  pub record IsHeld : Type 0 where
+    pub size : Size
+    pub s : SlicesOf K
+    pub holds : Holds size s
+
   -- A sheet at work on the script has made so many rounds, and has come to these values.
   pub record Stands (w : Work) (s : SlicesOf K) (rounds : ℕ) (values : List K) : Type 0 where
     pub holds : Holds w.progress.size s
@@ -79,7 +85,7 @@ module _ {K : Type 0} (k : Algebra K) (weight : Branch → K) (n : ℕ) (script 
       (w : Work) (s : SlicesOf K) (calls : ℕ) (s' : SlicesOf K) (calls' : ℕ) (r : Result Settled (Work × Refusal)) →
       Stands w s rounds before → SettlesBy k w s calls s' calls' r → (f : Settled) × (r ≡ Ok f) × Reads k f s' rounds' after
 
--- A branch of a routine, with its calls in the first places and its seconds.
+-- A branch of a routine: its calls, at most four, and its seconds.
 abbrev pub calling : ℕ → List ℕ → ℕ → Branch
 calling routine calls seconds = record {
   routine = routine;
@@ -114,22 +120,31 @@ chain_solved = Least.seconds 7 ∷ Least.seconds 3 ∷ Least.seconds 1 ∷ []
 
 abbrev pub sheet_figures : List (Type 0)
 sheet_figures =
-    StartGives least_algebra Least.weight 3 chain chain_started
+    -- least: the chain is settled with two rounds
+    IsHeld least_algebra Least.weight 3 chain
+    ∷ StartGives least_algebra Least.weight 3 chain chain_started
     ∷ RoundGives least_algebra Least.weight 3 chain 0 chain_started chain_once
     ∷ RoundGives least_algebra Least.weight 3 chain 1 chain_once chain_solved
     ∷ SettleGives least_algebra Least.weight 3 chain 0 chain_started 2 chain_solved
-    -- a climb spares a round
+    -- a climb in the place of the second round spares it
     ∷ ClimbGives least_algebra Least.weight 3 chain 1 chain_once chain_solved
     ∷ SettleGives least_algebra Least.weight 3 chain 1 chain_solved 1 chain_solved
+    -- most: solved from start on
+    ∷ IsHeld most_algebra Most.weight 1 waiting
     ∷ StartGives most_algebra Most.weight 1 waiting (Most.seconds 4 ∷ [])
     ∷ RoundRefused most_algebra Most.weight 1 waiting 0 (Most.seconds 4 ∷ [])
     ∷ CloseGives most_algebra Most.weight 1 waiting 0 (Most.seconds 4 ∷ [])
+    -- least: a routine without an end takes never
+    ∷ IsHeld least_algebra Least.weight 1 endless
     ∷ StartGives least_algebra Least.weight 1 endless (Least.zero ∷ [])
     ∷ CloseGives least_algebra Least.weight 1 endless 0 (Least.zero ∷ [])
     -- no branches: no routine has a figure
+    -- no branches: there is no routine to have a figure
+    ∷ IsHeld least_algebra Least.weight 0 []
     ∷ StartGives least_algebra Least.weight 0 [] []
     ∷ CloseGives least_algebra Least.weight 0 [] 0 []
     ∷ []
 
+-- All worked figures.
 abbrev pub figures : List (Type 0)
 figures = kinds_figures ++ sheet_figures
