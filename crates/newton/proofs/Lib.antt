@@ -2,6 +2,8 @@ pub mod Above
 pub mod Benches
 pub mod Feeding
 pub mod Ruled
+pub mod Scripts
 pub mod Settling
 pub mod Stepping
 pub mod Written
+pub mod Worked

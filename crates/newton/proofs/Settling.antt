@@ -1,5 +1,5 @@
 -- What rounds leave of the places that they do not name.
-use Rattle.std.proofs.Common.{◌≡◌, ℕ, zero, suc, ◌*◌, ◌++◌, drop, ap, ◌∙◌, subst, sym, arith, inl, inr, Ok, Err, Result}
+use Rattle.std.proofs.Common.{◌≡◌, ℕ, zero, suc, ◌*◌, ◌≤◌, ◌++◌, length, drop, ap, ◌∙◌, subst, sym, arith, inl, inr, Ok, Err, Result}
 use Rattle.std.specs.Prelude.{IfOk, IfErr}
 use Rattle.std.specs.Result.{result_and}
 use Rattle.semiring.specs.Algebra.{Algebra}
@@ -11,8 +11,8 @@ use Rattle.newton.specs.declared.sheet.Work.{Work}
 use Rattle.newton.specs.declared.sheet.Settled.{Settled}
 use Rattle.script.specs.declared.refusal.sheet.SheetRefusal.{SheetRefusal as Refusal}
 use Rattle.newton.specs.Questions.{Passed}
-use Rattle.newton.specs.Working.{slice_questions, due_questions, RoundsEnd, SettlesBy, SolvedBy, NewtonStep, Counts, GoesOn, Rounded, Made, RoundsOn, LeavesOff}
-use Rattle.newton.proofs.Written.{written_tail}
+use Rattle.newton.specs.Working.{HasRoom, slice_questions, due_questions, RoundsEnd, SettlesBy, SolvedBy, Cleared, NewtonStep, Counts, GoesOn, Rounded, Made, RoundsOn, LeavesOff}
+use Rattle.newton.proofs.Written.{written_tail, written_size}
 
 module _ {K : Type 0} (k : Algebra K) (size : Size) where
   abbrev n : ℕ
@@ -27,6 +27,20 @@ module _ {K : Type 0} (k : Algebra K) (size : Size) where
   grid_kept zero s s' made = ap (λ x. drop (n * n) x.grid) made
   grid_kept (suc j) s s' made =
       written_tail (λ r. k.zero) (n * n) made.0.grid s'.grid made.3.cleared.grid ∙ grid_kept j s made.0 made.1
+
+  -- clearing keeps the room that the slices have
+  pub room_still : (s s' : SlicesOf K) → HasRoom size s → n ≤ length s'.values → Cleared k n s s' → HasRoom size s'
+  room_still s s' room places cleared = record {
+    branches = omega (arith, room.branches, ap length cleared.branches);
+    weights = omega (arith, room.weights, ap length cleared.weights);
+    values = places;
+    column = omega (arith, room.column, written_size (λ r. k.zero) n s.column s'.column room.column cleared.column);
+    grid = omega (arith, room.grid, written_size (λ r. k.zero) (n * n) s.grid s'.grid room.grid cleared.grid);
+  }
+
+  -- so does a step
+  pub room_kept : (s s' : SlicesOf K) → HasRoom size s → NewtonStep k size s s' → HasRoom size s'
+  room_kept s s' room step = room_still s s' room (omega (arith, room.values, step.places)) step.cleared
 
   -- one round more
   pub round_on :

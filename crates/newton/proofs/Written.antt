@@ -7,7 +7,7 @@ use Rattle.equations.specs.Held.{table, written}
 use Rattle.equations.proofs.Slices.{entry_written, length-table, table_ext}
 
 -- what is read from the front is the table of the places there
-table_read : {K : Type 0} (k : Algebra K) (n : ℕ) (xs : List K) → n ≤ length xs → take n xs ≡ table (entry_at k xs) n
+pub table_read : {K : Type 0} (k : Algebra K) (n : ℕ) (xs : List K) → n ≤ length xs → take n xs ≡ table (entry_at k xs) n
 table_read k zero xs room = refl
 table_read k (suc n) xs room =
     ap (λ m. take m xs) (sym (add-one n)) ∙ take_more xs n k.zero (omega arith) ∙ ap (λ l. l ++ entry_at k xs n ∷ []) (table_read k n xs (omega arith))

@@ -4,3 +4,4 @@ pub mod Drafting
 pub mod Loading
 pub mod Slices
 pub mod Working
+pub mod Figures

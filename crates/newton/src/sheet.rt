@@ -1,6 +1,7 @@
 // The three states of a sheet. A sheet is three numbers: how many routines it has, how many
 // branches it holds, and how many rounds it has made. What it works on lies in slices that are
-// lent to each call.
+// lent to each call. The state is the type: a figure is no call of a sheet at work, nor enter one
+// of a settled sheet.
 ghost use Rattle.std.specs.Prelude.{◌≡◌, ◌≤◌};
 
 // How many routines a sheet has, and how many branches it holds.
