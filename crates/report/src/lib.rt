@@ -42,6 +42,8 @@ fn count<S: Source>(source: &mut S) -> Result<usize, Fault>
     Ok(branches)
 }
 
+mod figures;
+
 // The line for a text.
 pub fn printed(heap: Global, text: &[u8]) -> Result<String, Unprinted>
     ensures { Reported text.now result }
