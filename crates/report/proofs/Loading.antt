@@ -1,5 +1,5 @@
 -- What loading a script leaves: its rules, its routines and its fault.
-use Rattle.std.proofs.Common.{◌≡◌, ◌≢◌, ℕ, zero, suc, ◌+◌, ◌-◌, ◌*◌, ◌<◌, ◌≤◌, max, List, [], ◌∷◌, ◌++◌, length, take, drop, get_or, Some, None, Ok, Err, Option, Result, refl, sym, ap, ◌∙◌, subst, subst₂, inl, inr, add-one, append-nil, append_assoc, get_or-set_other, get_or-set_same, below_more, arith}
+use Rattle.std.proofs.Common.{◌≡◌, ◌≢◌, ℕ, zero, suc, ◌+◌, ◌-◌, ◌<◌, ◌≤◌, max, List, [], ◌∷◌, ◌++◌, length, drop, get_or, Some, None, Ok, Err, Result, refl, sym, ap, ◌∙◌, subst, subst₂, inl, inr, add-one, append-nil, append_assoc, get_or-set_other, get_or-set_same, below_more, arith}
 use Rattle.std.proofs.lemmas.List.{length-set}
 use Rattle.std.proofs.lemmas.Nat.{mul-le}
 use Rattle.std.proofs.lemmas.Result.{err_from_is_err_and}
@@ -12,13 +12,12 @@ use Rattle.script.specs.declared.fault.Fault.{Fault}
 use Rattle.script.specs.declared.refusal.sheet.SheetRefusal.{SheetRefusal as Refusal}
 use Rattle.script.specs.declared.refusal.sheet.SheetRefusal.TheVariants.{Room}
 use Rattle.script.specs.Feed.{Ending, Feed}
-use Rattle.equations.specs.Rule.{Rule}
-use Rattle.equations.specs.Held.{no_branch, rule_of, rules_of, table}
+use Rattle.equations.specs.Held.{no_branch, rule_of, rules_of}
 use Rattle.equations.proofs.Slices.{table_ext}
 use Rattle.newton.specs.declared.sheet.Draft.{Draft}
-use Rattle.newton.specs.Questions.{Passed, Refused}
+use Rattle.newton.specs.Questions.{Refused}
 use Rattle.newton.specs.Drafting.{named, above, enter_questions, Enters}
-use Rattle.newton.specs.Loading.{sheet_fault, ended_by, TurnedAway, Loads}
+use Rattle.newton.specs.Loading.{sheet_fault, ended_by, Loads}
 use Rattle.newton.specs.Slices.{SlicesOf}
 use Rattle.newton.specs.Working.{Sound, AllSound, HasRoom}
 use Rattle.report.specs.Script.{routines_from, rules, InRange, AllInRange, refused_or, fault_of}

@@ -1,12 +1,12 @@
 -- What starting and settling a sheet makes of the rules that it holds.
-use Rattle.std.proofs.Common.{◌≡◌, ℕ, zero, suc, ◌*◌, ◌<◌, ◌≤◌, length, List, [], ◌∷◌, take, sym, ap, ◌∙◌, subst, subst₂, inl, inr, Err, arith}
+use Rattle.std.proofs.Common.{◌≡◌, ℕ, zero, suc, ◌*◌, ◌<◌, ◌≤◌, length, List, [], ◌∷◌, sym, ap, ◌∙◌, subst, subst₂, inl, inr, Err, arith}
 use Rattle.std.specs.List.{AllByRecursion}
 use Rattle.semiring.specs.Algebra.{Algebra}
 use Rattle.script.specs.declared.branch.Branch.{Branch}
 use Rattle.linear.specs.System.{entry_at, Least}
 use Rattle.equations.specs.Rule.{Rule, Within}
 use Rattle.equations.specs.Equations.{image, slope, Solves}
-use Rattle.equations.specs.Held.{no_branch, rule_of, rules_of, written}
+use Rattle.equations.specs.Held.{rules_of, written}
 use Rattle.equations.specs.Reached.{Image, Reached, start, round}
 use Rattle.equations.proofs.Slices.{entry_written}
 use Rattle.equations.proofs.Within.{CallsWithin, no_calls, more_calls, table_within}

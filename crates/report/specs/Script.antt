@@ -1,6 +1,6 @@
 -- What a sheet takes in of a script: its rules, how many routines they have, and where it is refused.
 use Rattle.std.specs.Prelude.{ℕ, ◌<◌, ◌≤◌, List, [], ◌∷◌, map, drop, Some}
-use Rattle.std.specs.List.{AllByRecursion, fold}
+use Rattle.std.specs.List.{AllByRecursion}
 use Rattle.script.specs.declared.branch.Branch.{Branch}
 use Rattle.script.specs.declared.branch.Placed.{Placed}
 use Rattle.script.specs.declared.refusal.sheet.SheetRefusal.TheVariants.{Room}

@@ -42,7 +42,7 @@ fn solve<K: Semiring, V: Solver>(
 }
 
 // Enters the branches of a source, and solves their equations: the values are then the figures.
-fn settle<K: Weighing, S: Source, V: Solver>(
+pub(crate) fn settle<K: Weighing, S: Source, V: Solver>(
     source: &mut S,
     solver: &mut V,
     branches: &mut [Branch],

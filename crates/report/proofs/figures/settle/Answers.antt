@@ -1,6 +1,5 @@
 use Rattle.std.proofs.Common.{refl}
 use Rattle.linear.specs.System.{entry_at}
-use Rattle.newton.specs.Slices.{beside}
 use Rattle.report.proofs.Loading.{settles_not, ready, settles}
 use Rattle.report.proofs.figures.settle.Goals as goal
 
