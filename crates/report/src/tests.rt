@@ -181,20 +181,58 @@ struct Example {
 
 const EXAMPLES: [Example; 4] = [
     Example {
-        script: include_bytes!("../../../examples/refine.txt"),
-        sheet: include_str!("../../../examples/refine.sheet"),
+        script: b"routine seconds light turn calls\n\
+            START 5 900 1 REFINE+REFINE\n\
+            REFINE 4 700 2 -\n\
+            REFINE 3 800 6 REFINE\n",
+        sheet: "routine least most light disc\n\
+            START 13 unlimited 700 820820\n\
+            REFINE 4 unlimited 700 104104\n\
+            rounds 1 1 1 1\n",
     },
     Example {
-        script: include_bytes!("../../../examples/nested.txt"),
-        sheet: include_str!("../../../examples/nested.sheet"),
+        script: b"routine seconds light turn calls\n\
+            EXAM 60 1200 3 SETUP+FIELD+FIELD\n\
+            SETUP 20 1500 0 -\n\
+            SETUP 45 2000 6 DIM\n\
+            FIELD 90 800 4 SPOT+SPOT+SPOT\n\
+            FIELD 30 400 8 SPOT\n\
+            SPOT 4 300 1 -\n\
+            SPOT 7 900 2 DIM\n\
+            DIM 2 1000 12 -\n",
+        sheet: "routine least most light disc\n\
+            EXAM 148 341 800 aaad55\n\
+            SETUP 20 47 1500 040001\n\
+            FIELD 34 117 800 500280\n\
+            DIM 2 2 1000 001000\n\
+            SPOT 4 9 900 004002\n\
+            rounds 2 3 3 2\n",
     },
     Example {
-        script: include_bytes!("../../../examples/mutual.txt"),
-        sheet: include_str!("../../../examples/mutual.sheet"),
+        script: b"routine seconds light turn calls\n\
+            LEFT 5 700 6 RIGHT\n\
+            LEFT 9 500 2 -\n\
+            RIGHT 4 900 6 LEFT\n\
+            RIGHT 3 1000 0 LEFT+LEFT\n\
+            BOTH 0 65535 0 LEFT+RIGHT\n",
+        sheet: "routine least most light disc\n\
+            LEFT 9 unlimited 500 444444\n\
+            RIGHT 13 unlimited 500 111111\n\
+            BOTH 22 unlimited 500 444444\n\
+            rounds 1 1 1 1\n",
     },
     Example {
-        script: include_bytes!("../../../examples/endless.txt"),
-        sheet: include_str!("../../../examples/endless.sheet"),
+        script: b"routine seconds light turn calls\n\
+            START 10 600 2 TRACK\n\
+            START 12 500 4 SWEEP\n\
+            TRACK 1 900 1 TRACK\n\
+            SWEEP 8 800 3 -\n\
+            SWEEP 8 800 3 TRACK\n",
+        sheet: "routine least most light disc\n\
+            START 20 20 500 000080\n\
+            TRACK never never 0 000000\n\
+            SWEEP 8 8 800 000008\n\
+            rounds 1 1 1 1\n",
     },
 ];
 
