@@ -1,5 +1,6 @@
 -- What loading a script leaves: its rules, its routines and its fault.
-use Rattle.std.proofs.Common.{◌≡◌, ◌≢◌, ℕ, zero, suc, ◌+◌, ◌-◌, ◌<◌, ◌≤◌, max, List, [], ◌∷◌, ◌++◌, length, drop, get_or, Some, None, Ok, Err, Result, refl, sym, ap, ◌∙◌, subst, subst₂, inl, inr, add-one, append-nil, append_assoc, get_or-set_other, get_or-set_same, below_more, arith}
+use Rattle.std.proofs.Common.{◌≡◌, ◌≢◌, ℕ, suc, ◌+◌, ◌-◌, ◌<◌, ◌≤◌, max, List, [], ◌∷◌, ◌++◌, length, drop, get_or, Some, None, Ok, Err, Result, refl, sym, ap, ◌∙◌, subst, subst₂, inl, inr, add-one, append-nil, append_assoc, get_or-set_other, get_or-set_same, below_more, arith}
+use Rattle.std.proofs.Math.Seq.{drop-nil}
 use Rattle.std.proofs.lemmas.List.{length-set}
 use Rattle.std.proofs.lemmas.Nat.{mul-le}
 use Rattle.std.proofs.lemmas.Result.{err_from_is_err_and}
@@ -23,10 +24,6 @@ use Rattle.newton.specs.Working.{Sound, AllSound, HasRoom}
 use Rattle.report.specs.Script.{routines_from, rules, InRange, AllInRange, refused_or, fault_of}
 use Rattle.report.specs.Settled.{Settled, Settles}
 
-drop_none : {X : Type 0} (n : ℕ) → ◌≡◌ {A = List X} (drop n []) []
-drop_none zero = refl
-drop_none (suc n) = refl
-
 -- one more than the largest number lies above every number
 pub above_grows : (n : ℕ) (ms : List ℕ) → n ≤ above n ms
 above_grows n [] = omega arith
@@ -39,10 +36,6 @@ all_below n (m ∷ ms) = (omega (arith, above_grows (max n (m + 1)) ms), all_bel
 pub below_raised : (n top : ℕ) (ms : List ℕ) → n ≤ top → AllByRecursion (λ m. m < n) ms → AllByRecursion (λ m. m < top) ms
 below_raised n top [] small all = tt
 below_raised n top (m ∷ ms) small all = (omega (arith, all.0), below_raised n top ms small all.1)
-
-pub above_within : (top n : ℕ) (ms : List ℕ) → n ≤ top → AllByRecursion (λ m. m < top) ms → above n ms ≤ top
-above_within top n [] small all = small
-above_within top n (m ∷ ms) small all = above_within top (max n (m + 1)) ms (omega (arith, all.0)) all.1
 
 sound_more : (n top : ℕ) (b : Branch) → n ≤ top → Sound n b → Sound top b
 sound_more n top b small sound = (sound.0, below_raised n top (named b) small sound.1)
@@ -100,7 +93,7 @@ module _ {K : Type 0} (k : Algebra K) (weight : Branch → K) where
     n = ap (λ (x : Draft). x.size.n) loads.1;
     sound = subst₂ (λ (x : Draft) y. AllSound x.size y) (sym loads.1) (sym loads.2);
   }
-  loads_held (item ∷ items) ending d bs ws d' bs' ws' r (inl away) e = let refused = away.1 in let z : ◌≡◌ {A = ℕ} 0 1 = cc in absurd (omega arith)
+  loads_held (item ∷ items) ending d bs ws d' bs' ws' r (inl away) e = let refused = away.1 in absurd cc
   loads_held (item ∷ items) ending d bs ws d' bs' ws' r (inr on) e =
       let b = item.branch in
       let enters = on.3 in
@@ -138,7 +131,7 @@ module _ {K : Type 0} (weight : Branch → K) where
       AllInRange items →
       Loads weight items ending d bs ws d' bs' ws' r →
       r ≡ ended_by (refused_or (drop (200 - d.size.held) items) ending)
-  loads_fault [] ending d bs ws d' bs' ws' r room room' range loads = loads.0 ∙ ap (λ l. ended_by (refused_or l ending)) (sym (drop_none (200 - d.size.held)))
+  loads_fault [] ending d bs ws d' bs' ws' r room room' range loads = loads.0 ∙ ap (λ l. ended_by (refused_or l ending)) (sym (drop-nil (200 - d.size.held)))
   loads_fault (item ∷ items) ending d bs ws d' bs' ws' r room room' range (inl (fault, is, away)) =
       let only = room_only d item.branch bs ws away.why range.0 away.refused in
       let full = full_at d.size.held (length bs) (length ws) room room' only.1 in
@@ -156,10 +149,10 @@ module _ {K : Type 0} (weight : Branch → K) where
 -- an answer says which ending it was
 no_ending : (ending : Ending) → Ok tt ≡ ended_by ending → ending ≡ None
 no_ending None e = refl
-no_ending (Some fault) e = let z : ◌≡◌ {A = ℕ} 0 1 = cc in absurd (omega arith)
+no_ending (Some fault) e = absurd cc
 
 that_ending : (ending : Ending) (fault : Fault) → Err fault ≡ ended_by ending → ending ≡ Some fault
-that_ending None fault e = let z : ◌≡◌ {A = ℕ} 0 1 = cc in absurd (omega arith)
+that_ending None fault e = absurd cc
 that_ending (Some other) fault e = cc
 
 -- a script that is loaded into a new draft

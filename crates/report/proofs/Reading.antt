@@ -1,6 +1,6 @@
 -- The branches of a text are in range, and name exactly the routines of its legend.
-use Rattle.std.proofs.Common.{◌≡◌, ℕ, zero, suc, ◌+◌, ◌<◌, ◌≤◌, max, ◌&&◌, ◌||◌, Bool, true, false, cond, leb, eqb, List, [], ◌∷◌, ◌++◌, length, take, drop, get_or, Some, None, Option, ◌⊎◌, inl, inr, refl, sym, ap, ◌∙◌, subst, arith, length-append}
-use Rattle.std.proofs.lemmas.Bool.{leb-true}
+use Rattle.std.proofs.Common.{◌≡◌, ℕ, zero, suc, ◌+◌, ◌<◌, ◌≤◌, max, ◌||◌, Bool, true, false, cond, leb, eqb, List, [], ◌∷◌, ◌++◌, length, take, drop, get_or, Some, None, Option, ◌⊎◌, inl, inr, refl, sym, ap, ◌∙◌, subst, arith, length-append}
+use Rattle.std.proofs.lemmas.Bool.{leb-true, and_parts}
 use Rattle.std.specs.Str.{IsAscii}
 use Rattle.std.specs.List.{AllByRecursion, list_all}
 use Rattle.script.specs.declared.branch.Branch.{Branch}
@@ -17,7 +17,8 @@ use Rattle.reader.proofs.Numbering.{Old, New, old_or_new}
 use Rattle.newton.specs.Drafting.{named, above}
 use Rattle.report.specs.Script.{routines, routines_from, InRange, AllInRange, refused_or, fault_of}
 use Rattle.report.specs.Figures.{Kind, Column, Fills}
-use Rattle.report.proofs.Loading.{all_below, below_raised, above_within}
+use Rattle.newton.proofs.Above.{raised_within}
+use Rattle.report.proofs.Loading.{all_below, below_raised}
 
 -- the legend is as long as one more than the largest number that was met
 met_counts : (legend : Legend) (w : List ℕ) → max (length legend) (number_of legend w + 1) ≡ length (met legend w)
@@ -48,7 +49,7 @@ record AllYes (name seconds turn calls all : Bool) : Type 0 where
   all_yes : all ≡ true
 
 absurd_answer : {X : Type 0} (m : Misread) → Some m ≡ None → X
-absurd_answer m e = let z : ◌≡◌ {A = ℕ} 0 1 = cc in absurd (omega arith)
+absurd_answer m e = absurd cc
 
 answers :
     (words name names seconds light turn calls all : Bool) (at₁ at₂ at₃ at₄ : ℕ) →
@@ -64,22 +65,18 @@ answers true true true true true false calls all at₁ at₂ at₃ at₄ e = abs
 answers true true true true true true false all at₁ at₂ at₃ at₄ e = absurd_answer _ e
 answers true true true true true true true false at₁ at₂ at₃ at₄ e = absurd_answer _ e
 
-both : (a b : Bool) → (a && b) ≡ true → (a ≡ true) × (b ≡ true)
-both true b e = (refl, e)
-both false b e = let z : ◌≡◌ {A = ℕ} 0 1 = cc in absurd (omega arith)
-
 at_most : (most : ℕ) (w : List ℕ) → in_range most w ≡ true → value w ≤ most
-at_most most w e = leb-true _ _ (both (is_number w) (leb (value w) most) e).1
+at_most most w e = leb-true _ _ (and_parts (is_number w) (leb (value w) most) e).1
 
 -- Names are letters and digits.
 abbrev AllNames : Legend → Type 0
 AllNames legend = AllByRecursion (λ w. is_name w ≡ true) legend
 
 letter_ascii : (b : ℕ) → letter b ≡ true → b < 128
-letter_ascii b e = omega (arith, leb-true _ _ (both (leb 65 b) (leb b 90) e).1)
+letter_ascii b e = omega (arith, leb-true _ _ (and_parts (leb 65 b) (leb b 90) e).1)
 
 digit_ascii : (b : ℕ) → digit b ≡ true → b < 128
-digit_ascii b e = omega (arith, leb-true _ _ (both (leb 48 b) (leb b 57) e).1)
+digit_ascii b e = omega (arith, leb-true _ _ (and_parts (leb 48 b) (leb b 57) e).1)
 
 either_ascii : (a c : Bool) (b : ℕ) → (a ≡ true → b < 128) → (c ≡ true → b < 128) → (a || c) ≡ true → b < 128
 either_ascii true c b left right e = left refl
@@ -87,13 +84,13 @@ either_ascii false c b left right e = right e
 
 bytes_ascii : (bs : List ℕ) → list_all name_byte bs ≡ true → IsAscii bs
 bytes_ascii [] e i = omega arith
-bytes_ascii (b ∷ bs) e zero = either_ascii (letter b) (digit b) b (letter_ascii b) (digit_ascii b) (both (name_byte b) (list_all name_byte bs) e).0
-bytes_ascii (b ∷ bs) e (suc i) = bytes_ascii bs (both (name_byte b) (list_all name_byte bs) e).1 i
+bytes_ascii (b ∷ bs) e zero = either_ascii (letter b) (digit b) b (letter_ascii b) (digit_ascii b) (and_parts (name_byte b) (list_all name_byte bs) e).0
+bytes_ascii (b ∷ bs) e (suc i) = bytes_ascii bs (and_parts (name_byte b) (list_all name_byte bs) e).1 i
 
 name_ascii : (w : List ℕ) → is_name w ≡ true → IsAscii w
 name_ascii [] e i = omega arith
-name_ascii (b ∷ bs) e zero = letter_ascii b (both (letter b) (is_tail bs) e).0
-name_ascii (b ∷ bs) e (suc i) = bytes_ascii bs (both (leb (length bs) 11) (list_all name_byte bs) (both (letter b) (is_tail bs) e).1).1 i
+name_ascii (b ∷ bs) e zero = letter_ascii b (and_parts (letter b) (is_tail bs) e).0
+name_ascii (b ∷ bs) e (suc i) = bytes_ascii bs (and_parts (leb (length bs) 11) (list_all name_byte bs) (and_parts (letter b) (is_tail bs) e).1).1 i
 
 names_ascii : (legend : Legend) → AllNames legend → (r : ℕ) → IsAscii (get_or legend r [])
 names_ascii [] all r = λ i. omega arith
@@ -114,11 +111,11 @@ met_names legend w all e = go (old_or_new legend w)
 all_met_names : (legend : Legend) (ws : List (List ℕ)) → AllNames legend → list_all is_name ws ≡ true → AllNames (all_met legend ws)
 all_met_names legend [] all e = all
 all_met_names legend (w ∷ ws) all e =
-    let parts = both (is_name w) (list_all is_name ws) e in
+    let parts = and_parts (is_name w) (list_all is_name ws) e in
     all_met_names (met legend w) ws (met_names legend w all parts.0) parts.1
 
 few_calls : (w : List ℕ) → is_calls w ≡ true → length (called w) ≤ 4
-few_calls w e = leb-true _ _ (both (leb (length (called w)) 4) (list_all is_name (called w)) e).0
+few_calls w e = leb-true _ _ (and_parts (leb (length (called w)) 4) (list_all is_name (called w)) e).0
 
 module _ (legend : Legend) (ws : List (List ℕ)) (read : line_refusal legend ws ≡ None) where
   abbrev b : Branch
@@ -155,7 +152,7 @@ module _ (legend : Legend) (ws : List (List ℕ)) (read : line_refusal legend ws
   line_names : AllNames legend → AllNames (line_met legend ws)
   line_names all =
       all_met_names (routine_met legend ws) (called (calls_word ws)) (met_names legend (name_word ws) all yes.name_yes)
-      (both (leb (length (called (calls_word ws))) 4) (list_all is_name (called (calls_word ws))) yes.calls_yes).1
+      (and_parts (leb (length (called (calls_word ws))) 4) (list_all is_name (called (calls_word ws))) yes.calls_yes).1
 
 -- What is known of a feed and its legend, behind a legend.
 record Numbers (before : Legend) (feed : Feed) (after : Legend) : Type 0 where
@@ -166,8 +163,8 @@ record Numbers (before : Legend) (feed : Feed) (after : Legend) : Type 0 where
 nothing_read : (before : Legend) (fault : Fault) (after : Legend) → Numbers before (failed fault) after
 nothing_read before fault after = record {
   range = tt;
-  counts = λ e. let z : ◌≡◌ {A = ℕ} 0 1 = cc in absurd (omega arith);
-  names = λ e all. let z : ◌≡◌ {A = ℕ} 0 1 = cc in absurd (omega arith);
+  counts = λ e. absurd cc;
+  names = λ e all. absurd cc;
 }
 
 line_numbers :
@@ -212,7 +209,7 @@ text_routines text = (text_numbers text).counts
 few_routines : (n : ℕ) (items : List Placed) → n ≤ 32 → AllInRange items → routines_from n items ≤ 32
 few_routines n [] small range = small
 few_routines n (item ∷ items) small range =
-    few_routines (above n (named item.branch)) items (above_within 32 n (named item.branch) small range.0.routines) range.1
+    few_routines (above n (named item.branch)) items (raised_within 32 n _ (named item.branch) refl small range.0.routines) range.1
 
 pub text_few : (text : List ℕ) → (text_feed text).ending ≡ None → length (text_legend text) ≤ 32
 text_few text ended = omega (arith, few_routines 0 (text_feed text).items (omega arith) (text_in_range text), text_routines text ended)
@@ -223,7 +220,7 @@ text_ascii text ended = names_ascii (text_legend text) ((text_numbers text).name
 -- a text with no fault ends plainly
 no_fault : (items : List Placed) (ending : Ending) → refused_or items ending ≡ None → ending ≡ None
 no_fault [] ending e = e
-no_fault (item ∷ items) ending e = let z : ◌≡◌ {A = ℕ} 0 1 = cc in absurd (omega arith)
+no_fault (item ∷ items) ending e = absurd cc
 
 pub plain_end : (text : List ℕ) (feed : Feed) → feed ≡ text_feed text → fault_of feed ≡ None → (text_feed text).ending ≡ None
 plain_end text feed is none = no_fault (drop 200 (text_feed text).items) (text_feed text).ending (subst (λ f. fault_of f ≡ None) is none)

@@ -31,14 +31,13 @@ fn solve<K: Semiring, V: Solver>(
         result }
     ensures lent { SameLent space.old space.new }
 {
-    let work = match draft.start(script, space) {
-        Ok(work) => work,
-        Err(_) => unreachable(),
+    let Ok(work) = draft.start(script, space) else {
+        unreachable()
     };
-    match work.settle(solver, script, space) {
-        Ok(settled) => settled.rounds(),
-        Err(_) => unreachable(),
-    }
+    let Ok(settled) = work.settle(solver, script, space) else {
+        unreachable()
+    };
+    settled.rounds()
 }
 
 // Enters the branches of a source, and solves their equations: the values are then the figures.

@@ -1,4 +1,4 @@
-// Every limit of the file format on both sides, by the line that is printed.
+// Every limit of the file format and of a sheet on both sides, by what is printed.
 use super::*;
 use std::fmt::Write;
 use std::process::Abort;
@@ -6,28 +6,28 @@ use std::test::Fail;
 
 const FIRST_LINE: &[u8] = b"routine seconds light turn calls\n";
 
-// The line that is printed for a whole file.
-fn line_of(heap: Global, text: &[u8]) -> Result<String, AllocError> {
+// What is printed for a whole file.
+fn output_of(heap: Global, text: &[u8]) -> Result<String, AllocError> {
     match printed(heap, text) {
-        Ok(line) | Err(Unprinted::Refused(line)) => Ok(line),
+        Ok(output) | Err(Unprinted::Refused(output)) => Ok(output),
         Err(Unprinted::Memory(error)) => Err(error),
     }
 }
 
-fn expect(rt: &impl Abort, heap: Global, text: &[u8], line: &str) -> Result<(), Fail> {
-    let found = line_of(heap, text)?;
-    assert!(rt; found.as_str() == line, "{}", line);
+fn expect(rt: &impl Abort, heap: Global, text: &[u8], output: &str) -> Result<(), Fail> {
+    let found = output_of(heap, text)?;
+    assert!(rt; found.as_str() == output, "{}", output);
     Ok(())
 }
 
 // The same for lines behind the first one.
-fn expect_lines(rt: &impl Abort, heap: Global, lines: &[u8], line: &str) -> Result<(), Fail> {
+fn expect_lines(rt: &impl Abort, heap: Global, lines: &[u8], output: &str) -> Result<(), Fail> {
     let mut text = FIRST_LINE.to_vec(heap)?;
     text.extend_from_slice(lines)?;
-    expect(rt, heap, &text, line)
+    expect(rt, heap, &text, output)
 }
 
-// Lines behind the first one, with the line that is printed for them.
+// Lines behind the first one, with what is printed for them.
 struct Case {
     lines: &'static [u8],
     printed: &'static str,

@@ -6,10 +6,10 @@ use Rattle.report.specs.Settled.{Settled}
 use Rattle.report.proofs.Settling.{settles_draft, cannot_settle}
 use Rattle.report.proofs.figures.solve.Goals as goal
 
-pub unreachable-requires-in-Err-settle : goal.unreachable-requires-in-Err-settle
-unreachable-requires-in-Err-settle g c =
+pub unreachable-requires-in_default-settle : goal.unreachable-requires-in_default-settle
+unreachable-requires-in_default-settle g c =
     let calls = g.V.Solver.calls in
-    cannot_settle g.K.Semiring.algebra c.args.draft c.in-Ok.work (slices c.args.script c.args.space.now) (slices c.args.script c.start.new.space) (slices c.args.script c.settle.new.space) (calls c.args.solver.now) (calls c.settle.new.solver) c.requires c.in-Ok.ensures.starts c.in-Err-settle.field-0 c.in-Err-settle.ensures.settles
+    cannot_settle g.K.Semiring.algebra c.args.draft c.in-Ok.work (slices c.args.script c.args.space.now) (slices c.args.script c.start.new.space) (slices c.args.script c.settle.new.space) (calls c.args.solver.now) (calls c.settle.new.solver) c.requires c.in-Ok.ensures.starts c.in_default-settle.field-0 c.in_default-settle.ensures.settles
 
 pub returns-clause-settled : goal.returns-clause-settled
 returns-clause-settled g c =
