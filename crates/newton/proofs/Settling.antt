@@ -38,10 +38,6 @@ module _ {K : Type 0} (k : Algebra K) (size : Size) where
     grid = omega (arith, room.grid, written_size (λ r. k.zero) (n * n) s.grid s'.grid room.grid cleared.grid);
   }
 
-  -- so does a step
-  pub room_kept : (s s' : SlicesOf K) → HasRoom size s → NewtonStep k size s s' → HasRoom size s'
-  room_kept s s' room step = room_still s s' room (omega (arith, room.values, step.places)) step.cleared
-
   -- one round more
   pub round_on :
       (before first : ℕ) (s mid s' : SlicesOf K) (calls calls' : ℕ) (w w' : Work) →

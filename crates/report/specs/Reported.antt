@@ -1,28 +1,23 @@
--- What is printed for the bytes of a script file: one line, which says what the script has, or
--- where it cannot be read.
-use Rattle.std.specs.Prelude.{◌≡◌, ℕ, List, [], ◌∷◌, ◌++◌, length, Some, None, Ok, Err, String, string_bytes, codes, decimal, Result}
+-- What is printed for the bytes of a script file: its sheet, or one line that says where the file is
+-- refused.
+use Rattle.std.specs.Prelude.{◌≡◌, ℕ, List, [], ◌∷◌, ◌++◌, Some, None, Ok, Err, String, string_bytes, Result}
 use Rattle.std.specs.Global.{Global}
 use Rattle.script.specs.declared.fault.Fault.{Fault}
-use Rattle.script.specs.Feed.{Feed}
 use Rattle.script.specs.Shown.{fault_text}
 use Rattle.reader.specs.Text.{text_feed, text_legend}
+use Rattle.report.specs.Script.{fault_of}
+use Rattle.report.specs.Filled.{AllFill}
+use Rattle.report.specs.Written.{Columns, sheet_text}
 use Rattle.report.specs.declared.Unprinted.{Unprinted}
 use Rattle.report.specs.declared.Unprinted.TheVariants.{Refused, Memory}
-
--- the line of a script that can be read, with its count of routines and of branches
-abbrev pub script_line : ℕ → ℕ → List ℕ
-script_line routines branches = codes "script " ++ (decimal routines ++ (codes " routines " ++ (decimal branches ++ (codes " branches" ++ 10 ∷ []))))
 
 abbrev pub fault_line : Fault → List ℕ
 fault_line fault = fault_text fault ++ 10 ∷ []
 
--- What a call that counts the branches of a source answers.
-abbrev pub Counted : Feed → Result ℕ Fault → Type 0
-Counted feed (Ok n) = (feed.ending ≡ None) × (n ≡ length feed.items)
-Counted feed (Err fault) = feed.ending ≡ Some fault
-
--- The answer for a text, by the ending that the text stands for. Want of memory says nothing.
+-- The answer for a text. With no fault, it is a sheet with the names of the text, in which each
+-- column is what its kind makes of the text. Want of memory says nothing.
 abbrev pub Reported : List ℕ → Result (String Global) Unprinted → Type 0
-Reported text (Ok line) = ((text_feed text).ending ≡ None) × (string_bytes line ≡ script_line (length (text_legend text)) (length (text_feed text).items))
-Reported text (Err (Refused line)) = (fault : Fault) × ((text_feed text).ending ≡ Some fault) × (string_bytes line ≡ fault_line fault)
+Reported text (Ok sheet) =
+    (fault_of (text_feed text) ≡ None) × (columns : Columns) × AllFill text columns × (string_bytes sheet ≡ sheet_text (text_legend text) columns)
+Reported text (Err (Refused line)) = (fault : Fault) × (fault_of (text_feed text) ≡ Some fault) × (string_bytes line ≡ fault_line fault)
 Reported text (Err (Memory error)) = Unit {0}

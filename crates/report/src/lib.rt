@@ -1,22 +1,23 @@
-// From the bytes of a script file to the bytes that are printed for it.
+// From the bytes of a script file to the bytes that are printed for it: the sheet of the script.
 #![tactic(auto)]
 
-ghost use Rattle.std.specs.Prelude.{◌≡◌, ◌^◌, ◌<◌, length, OnOk};
-ghost use Rattle.reader.specs.Text.{ended};
+ghost use Rattle.std.specs.Prelude.{◌≡◌};
 ghost use Rattle.report.specs.declared.Unprinted.TheVariants.{Memory};
-ghost use Rattle.report.specs.Reported.{Counted, Reported};
+ghost use Rattle.report.specs.Reported.{Reported};
 
-use reader::TextSource;
-use script::fault::Fault;
-use script::source::Source;
+mod columns;
+mod figures;
+mod sheet;
+
+use sheet::Sheet;
 use std::alloc::{AllocError, Global};
 
-// Why a text has no line of its own.
+// Why a text has no sheet.
 #[derive(Drop)]
 pub enum Unprinted {
-    // The text cannot be read. The line of its fault is printed instead.
+    // The text is refused. The line of its fault is printed instead.
     Refused(String),
-    // There is no memory for a line.
+    // There is no memory for what is printed.
     Memory(AllocError),
 }
 
@@ -28,30 +29,12 @@ impl From<AllocError> for Unprinted {
     }
 }
 
-// Uses a source up, and counts its branches.
-fn count<S: Source>(source: &mut S) -> Result<usize, Fault>
-    requires { length (S.feed source.old).items < 2 ^ 64 }
-    ensures counted { Counted (S.feed source.old) result }
-    ensures at_end { OnOk result (S.feed source.new ≡ ended) }
-    ensures legend { S.legend source.new ≡ S.legend source.old }
-{
-    let mut branches: usize = 0;
-    while let Some(_) = source.next()? {
-        branches += 1;
-    }
-    Ok(branches)
-}
-
-// The line for a text.
+// What is printed for a text: its sheet, or the line of its fault as what refuses it.
 pub fn printed(heap: Global, text: &[u8]) -> Result<String, Unprinted>
     ensures { Reported text.now result }
 {
-    let mut source = TextSource::new(text);
-    match count(&mut source) {
-        Ok(branches) => {
-            let routines = source.names();
-            Ok(format!(in heap; "script {routines} routines {branches} branches\n")?)
-        }
+    match Sheet::of(text) {
+        Ok(sheet) => Ok(sheet.written(heap)?),
         Err(fault) => Err(Unprinted::Refused(format!(in heap; "{fault}\n")?)),
     }
 }

@@ -1,5 +1,5 @@
-// The program: a script file on standard input, the line for it on standard output. A script that
-// is refused ends the process with status 1 behind its line.
+// The program: a script file on standard input, its sheet on standard output. A script that is
+// refused has the line of its fault for a sheet, and ends the process with status 1 behind it.
 #![tactic(auto)]
 
 use report::{Unprinted, printed};
@@ -19,11 +19,11 @@ fn read(rt: &HostRuntime) -> io::Result<Vec<u8>> {
 
 fn main(rt: HostRuntime) -> anyhow::Result<ExitCode> {
     let text = read(&rt)?;
-    let (line, status) = match printed(rt.alloc(), &text) {
-        Ok(line) => (line, ExitCode::SUCCESS),
+    let (output, status) = match printed(rt.alloc(), &text) {
+        Ok(sheet) => (sheet, ExitCode::SUCCESS),
         Err(Unprinted::Refused(line)) => (line, ExitCode::FAILURE),
         Err(Unprinted::Memory(error)) => return Err(error.into()),
     };
-    print!(rt; "{line}")?;
+    print!(rt; "{output}")?;
     Ok(status)
 }

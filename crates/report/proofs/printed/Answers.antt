@@ -1,6 +1,14 @@
-use Rattle.std.proofs.Common.{◌^◌, ◌<◌, length, sym, subst, arith}
-use Rattle.reader.proofs.Bounds.{text_items}
+use Rattle.std.proofs.Common.{ap, ◌∙◌}
+use Rattle.report.specs.Sheet.{columns_of}
+use Rattle.report.specs.Written.{sheet_text}
 use Rattle.report.proofs.printed.Goals as goal
 
-pub count-requires : goal.count-requires
-count-requires c = subst (λ f. length f.items < 2 ^ 64) (sym c.new-source.ensures.feed) (omega (arith, text_items c.args.text.now))
+pub returns-in_ok-written-in-Ok : goal.returns-in_ok-written-in-Ok
+returns-in_ok-written-in-Ok c =
+    let of = c.in-Ok.ensures in
+    let columns = columns_of c.in-Ok.sheet in (
+      of.0,
+      columns,
+      of.2,
+      c.in_ok-written-in-Ok.ensures ∙ ap (λ legend. sheet_text legend columns) of.1,
+    )
