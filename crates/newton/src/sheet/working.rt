@@ -72,6 +72,8 @@ pub(super) fn solved<K: Semiring>(size: Size, script: Script<'_, K>, values: &[K
 }
 
 // The same on a script and a space.
+// Kept: tried with `ready` alone: where three slices of a `&mut` space are lent to one call, the
+// borrow checker of the toolchain does not cover the function.
 fn ready_in<K: Semiring>(
     size: Size,
     script: Script<'_, K>,
