@@ -1,12 +1,9 @@
 // The calls of a sheet at work.
 ghost use Rattle.std.specs.Prelude.{◌≡◌, ◌<◌, ◌≤◌, ◌↔◌, [], length, IsTrue, IfOk, IfErr, Ok, Err};
 ghost use Rattle.std.specs.Result.{result_and};
-ghost use Rattle.equations.specs.Held.{no_branch, written};
-ghost use Rattle.linear.specs.Solved.{Fits, Accepted, one_more};
-ghost use Rattle.linear.specs.System.{entry_at};
 ghost use Rattle.newton.specs.Questions.{Asked};
 ghost use Rattle.newton.specs.Slices.{beside, slices, SameLent};
-ghost use Rattle.newton.specs.Working.{Sound, AllSound, HasRoom, slice_questions, due_questions, close_questions, Started, Climbed, Closed, Lifts, NewtonStep, GoesOn, SolvedBy, Rounded, RoundsOn, RoundsEnd, SettlesBy};
+ghost use Rattle.newton.specs.Working.{Sound, AllSound, slice_questions, due_questions, Started, Climbed, Closed, SolvedBy, Rounded, SettlesBy};
 
 use super::bench::Bench;
 use super::drafting::names_below;
@@ -72,6 +69,7 @@ pub(super) fn solved<K: Semiring>(size: Size, script: Script<'_, K>, values: &[K
 }
 
 // The same on a script and a space.
+// Kept: behind a `&mut` to a space, its three slices are not read in one call; behind a `&` they are.
 fn ready_in<K: Semiring>(
     size: Size,
     script: Script<'_, K>,
@@ -133,24 +131,6 @@ impl Draft {
     {
         self.started(script, space)
             .map_err(|refusal| (self, refusal))
-    }
-}
-
-// Has a solver solve a system that it takes.
-pub(super) fn solve<K: Semiring, S: Solver>(
-    solver: &mut S,
-    n: usize,
-    grid: &mut [K],
-    column: &mut [K],
-)
-    requires { Fits n grid.old column.old }
-    ensures { Accepted K.Semiring.algebra n
-        (S.Solver.calls solver.old) grid.old column.old
-        (S.Solver.calls solver.new) grid.new column.new }
-{
-    match solver.solve(n, grid, column) {
-        Ok(()) => {}
-        Err(_) => unreachable(),
     }
 }
 
