@@ -26,7 +26,8 @@ fn solve<K: Semiring, S: Solver>(solver: &mut S, n: usize, grid: &mut [K], colum
     }
 }
 
-// How far the sheet has come, its script, and the slices of a space, with room for the work.
+// How far the sheet has come, its script, and the slices of a space, with room for the work. Each
+// slice has a lifetime of its own, so that one can be read while another is written.
 #[derive(Drop)]
 pub(super) struct Bench<'a, 'v, 'c, 'g, K> {
     pub progress: Progress,

@@ -59,16 +59,7 @@ fn ready<K: Semiring>(
     Ok(())
 }
 
-// Whether the values solve the equations of the held rules. Column and grid have no part in that.
-pub(super) fn solved<K: Semiring>(size: Size, script: Script<'_, K>, values: &[K]) -> bool
-    requires branches { size.held ≤ length script.branches.now }
-    requires weights { size.held ≤ length script.weights.now }
-    ensures { IsTrue result ↔ SolvedBy K.algebra size (beside script.entry values.now [] []) }
-{
-    Rules::held(size.held, script.branches, script.weights).solves(size.n, values)
-}
-
-// The same on a script and a space.
+// The questions on a script and a space, in order.
 // Kept: behind a `&mut` to a space, its three slices are not read in one call; behind a `&` they are.
 fn ready_in<K: Semiring>(
     size: Size,
@@ -78,6 +69,15 @@ fn ready_in<K: Semiring>(
     ensures { Asked (slice_questions K.algebra size (slices script.entry space.now)) result }
 {
     ready(size, script, space.values, space.column, space.grid)
+}
+
+// Whether the values solve the equations of the held rules. Column and grid have no part in that.
+pub(super) fn solved<K: Semiring>(size: Size, script: Script<'_, K>, values: &[K]) -> bool
+    requires branches { size.held ≤ length script.branches.now }
+    requires weights { size.held ≤ length script.weights.now }
+    ensures { IsTrue result ↔ SolvedBy K.algebra size (beside script.entry values.now [] []) }
+{
+    Rules::held(size.held, script.branches, script.weights).solves(size.n, values)
 }
 
 // The questions of the calls that go on, in order.
