@@ -1,19 +1,33 @@
 // A sheet at work on the slices that are lent to a call.
 ghost use Rattle.std.specs.Prelude.{◌≡◌, ◌*◌, ◌↔◌, IsTrue};
-ghost use Rattle.equations.specs.Held.{written};
+ghost use Rattle.equations.specs.Held.{listed, written};
 ghost use Rattle.linear.specs.Solved.{Fits, Accepted, one_more};
 ghost use Rattle.newton.specs.Slices.{beside};
-ghost use Rattle.newton.specs.Working.{HasRoom, Lifts, NewtonStep, GoesOn, SolvedBy, RoundsOn, RoundsEnd};
+ghost use Rattle.newton.specs.Working.{HasRoom, held_rules, Lifts, NewtonStep, GoesOn, SolvedBy, RoundsOn, RoundsEnd};
 
 use super::Progress;
-use super::working::{solve, solved};
+use super::working::solved;
 use crate::refusal::Refusal;
 use crate::slices::{Script, clear, take_over};
 use equations::rules::Rules;
 use linear::solver::Solver;
 use semiring::Semiring;
 
-// How far the sheet has come, its script, and the slices of a space, with room for the work.
+// Has a solver solve a system that it takes.
+fn solve<K: Semiring, S: Solver>(solver: &mut S, n: usize, grid: &mut [K], column: &mut [K])
+    requires { Fits n grid.old column.old }
+    ensures { Accepted K.Semiring.algebra n
+        (S.Solver.calls solver.old) grid.old column.old
+        (S.Solver.calls solver.new) grid.new column.new }
+{
+    match solver.solve(n, grid, column) {
+        Ok(()) => {}
+        Err(_) => unreachable(),
+    }
+}
+
+// How far the sheet has come, its script, and the slices of a space, with room for the work. Each
+// slice has a lifetime of its own, so that one can be read while another is written.
 #[derive(Drop)]
 pub(super) struct Bench<'a, 'v, 'c, 'g, K> {
     pub progress: Progress,
@@ -24,8 +38,17 @@ pub(super) struct Bench<'a, 'v, 'c, 'g, K> {
     ghost room: { HasRoom progress.size (beside script values.now column.now grid.now) },
 }
 
-impl<K: Semiring> Bench<'_, '_, '_, '_, K> {
+impl<'a, K: Semiring> Bench<'a, '_, '_, '_, K> {
     ghost use Rattle.newton.specs.Bench.{laid, sheet_of, SameBench};
+
+    // The rules of the held branches.
+    fn rules(&self) -> Rules<'a, K>
+        ensures { listed K.algebra result
+            ≡ held_rules K.algebra self.now.progress.size (laid self.now) }
+    {
+        let Script { branches, weights } = self.script;
+        Rules::held(self.progress.size.held, branches, weights)
+    }
 
     // Whether the values solve the equations of the held rules.
     pub fn solved(&self) -> bool
@@ -55,18 +78,11 @@ impl<K: Semiring> Bench<'_, '_, '_, '_, K> {
         ensures progress { self.new.progress ≡ self.old.progress }
         ensures same { SameBench self.old self.new }
     {
-        let Bench {
-            progress,
-            script,
-            values,
-            column,
-            grid,
-        } = self;
-        let values: &mut [K] = values;
-        let n = progress.size.n;
-        let rules = Rules::held(progress.size.held, script.branches, script.weights);
-        rules.image(n, values, column);
-        take_over(n, values, column, grid);
+        let n = self.progress.size.n;
+        let rules = self.rules();
+        let values = &mut *self.values;
+        rules.image(n, values, self.column);
+        take_over(n, values, self.column, self.grid);
     }
 
     // One Newton round.
@@ -77,20 +93,13 @@ impl<K: Semiring> Bench<'_, '_, '_, '_, K> {
         ensures progress { self.new.progress ≡ self.old.progress }
         ensures same { SameBench self.old self.new }
     {
-        let Bench {
-            progress,
-            script,
-            values,
-            column,
-            grid,
-        } = self;
-        let values: &mut [K] = values;
-        let n = progress.size.n;
-        let rules = Rules::held(progress.size.held, script.branches, script.weights);
-        rules.image(n, values, column);
-        rules.slopes(n, values, grid);
-        solve(solver, n, grid, column);
-        take_over(n, values, column, grid);
+        let n = self.progress.size.n;
+        let rules = self.rules();
+        let values = &mut *self.values;
+        rules.image(n, values, self.column);
+        rules.slopes(n, values, self.grid);
+        solve(solver, n, self.grid, self.column);
+        take_over(n, values, self.column, self.grid);
     }
 
     // Makes a round, if fewer have been made than there are routines.

@@ -1,12 +1,9 @@
 // The calls of a sheet at work.
 ghost use Rattle.std.specs.Prelude.{◌≡◌, ◌<◌, ◌≤◌, ◌↔◌, [], length, IsTrue, IfOk, IfErr, Ok, Err};
 ghost use Rattle.std.specs.Result.{result_and};
-ghost use Rattle.equations.specs.Held.{no_branch, written};
-ghost use Rattle.linear.specs.Solved.{Fits, Accepted, one_more};
-ghost use Rattle.linear.specs.System.{entry_at};
 ghost use Rattle.newton.specs.Questions.{Asked};
 ghost use Rattle.newton.specs.Slices.{beside, slices, SameLent};
-ghost use Rattle.newton.specs.Working.{Sound, AllSound, HasRoom, slice_questions, due_questions, close_questions, Started, Climbed, Closed, Lifts, NewtonStep, GoesOn, SolvedBy, Rounded, RoundsOn, RoundsEnd, SettlesBy};
+ghost use Rattle.newton.specs.Working.{Sound, AllSound, slice_questions, due_questions, Started, Climbed, Closed, SolvedBy, Rounded, SettlesBy};
 
 use super::bench::Bench;
 use super::drafting::names_below;
@@ -62,16 +59,7 @@ fn ready<K: Semiring>(
     Ok(())
 }
 
-// Whether the values solve the equations of the held rules. Column and grid have no part in that.
-pub(super) fn solved<K: Semiring>(size: Size, script: Script<'_, K>, values: &[K]) -> bool
-    requires branches { size.held ≤ length script.branches.now }
-    requires weights { size.held ≤ length script.weights.now }
-    ensures { IsTrue result ↔ SolvedBy K.algebra size (beside script.entry values.now [] []) }
-{
-    Rules::held(size.held, script.branches, script.weights).solves(size.n, values)
-}
-
-// The same on a script and a space.
+// The questions on a script and a space, in order.
 // Kept: tried with `ready` alone: where three slices of a `&mut` space are lent to one call, the
 // borrow checker of the toolchain does not cover the function.
 fn ready_in<K: Semiring>(
@@ -82,6 +70,15 @@ fn ready_in<K: Semiring>(
     ensures { Asked (slice_questions K.algebra size (slices script.entry space.now)) result }
 {
     ready(size, script, space.values, space.column, space.grid)
+}
+
+// Whether the values solve the equations of the held rules. Column and grid have no part in that.
+pub(super) fn solved<K: Semiring>(size: Size, script: Script<'_, K>, values: &[K]) -> bool
+    requires branches { size.held ≤ length script.branches.now }
+    requires weights { size.held ≤ length script.weights.now }
+    ensures { IsTrue result ↔ SolvedBy K.algebra size (beside script.entry values.now [] []) }
+{
+    Rules::held(size.held, script.branches, script.weights).solves(size.n, values)
 }
 
 // The questions of the calls that go on, in order.
@@ -135,24 +132,6 @@ impl Draft {
     {
         self.started(script, space)
             .map_err(|refusal| (self, refusal))
-    }
-}
-
-// Has a solver solve a system that it takes.
-pub(super) fn solve<K: Semiring, S: Solver>(
-    solver: &mut S,
-    n: usize,
-    grid: &mut [K],
-    column: &mut [K],
-)
-    requires { Fits n grid.old column.old }
-    ensures { Accepted K.Semiring.algebra n
-        (S.Solver.calls solver.old) grid.old column.old
-        (S.Solver.calls solver.new) grid.new column.new }
-{
-    match solver.solve(n, grid, column) {
-        Ok(()) => {}
-        Err(_) => unreachable(),
     }
 }
 

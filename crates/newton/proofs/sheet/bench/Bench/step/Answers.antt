@@ -10,5 +10,5 @@ returns-clause-step g c =
     let b = c.args.self.now in
     let n = b.progress.size.n in
     let v = entry_at k b.values.now in
-    let same = c.held-rules.ensures in
+    let same = c.rules-rules.ensures in
     stepped k b.progress.size (laid b) b.room.values c.image.new.column c.slopes.new.grid c.solve.new.column c.solve.new.grid c.take_over.new.values c.take_over.new.column c.take_over.new.grid _ _ (imaged k same v n b.column.now c.image.new.column c.image.ensures) (sloped k same v n b.grid.now c.slopes.new.grid c.slopes.ensures) c.solve.ensures c.take_over.ensures.values c.take_over.ensures.column c.take_over.ensures.grid
