@@ -59,7 +59,9 @@ fn settle_text<K: Weighing, V: Solver>(
     settle(source, solver, &mut branches, weights, space)
 }
 
-// The same in arrays of the kind's own: their size is known for each kind, and not for all.
+// The same in arrays of the kind's own.
+// Kept: a macro, since the size of an array is known for each kind, and not for all of them at once
+// (tried as one generic function).
 macro_rules! figures_of {
     ($source:expr, $kind:ty, $solver:ty) => {{
         let mut weights = [<$kind>::zero(); 200];
