@@ -1,5 +1,4 @@
 pub mod AsMet
-pub mod Bounds
 pub mod Calling
 pub mod Cutting
 pub mod Digits
