@@ -38,6 +38,8 @@ const NO_BRANCH: Branch = Branch {
 };
 
 // Settles the branches of a text, in a space that is large enough.
+// Kept: that the branches are in range is asked here and of each kind; it is true of a text that has
+// not been read yet, and a source that has been read on cannot say so of itself.
 fn settle_text<K: Weighing, V: Solver>(
     source: &mut TextSource,
     solver: &mut V,
