@@ -12,6 +12,9 @@ use Rattle.script.specs.Feed.{Ending, Feed}
 use Rattle.script.specs.Legend.{Legend, number_of, met, all_met, numbers_of}
 use Rattle.reader.specs.Format.{pieces, line_end, space, letter, digit, name_byte, is_tail, is_name, is_number, in_range, value, called, is_calls}
 use Rattle.reader.specs.Text.{Misread, asked, first_line, name_word, seconds_word, light_word, offset, turn_word, calls_word, routine_met, line_met, few, line_refusal, four, line_branch, line_feed, lines_feed, line_legend, lines_legend, behind_first, opened, opened_legend, text_feed, text_legend, failed, reader_fault}
+use Rattle.reader.specs.Known.{known}
+use Rattle.reader.specs.Unread.{feed_behind, text_left}
+use Rattle.reader.specs.declared.text.TextSource.{TextSource}
 use Rattle.reader.proofs.Calling.{length-numbers}
 use Rattle.reader.proofs.Numbering.{Old, New, old_or_new}
 use Rattle.newton.specs.Drafting.{named, above}
@@ -200,7 +203,16 @@ sized_numbers false o fault = nothing_read _ _ _
 text_numbers : (text : List ℕ) → Numbers [] (text_feed text) (text_legend text)
 text_numbers text = sized_numbers (leb (length text) 16384) (behind_first (pieces line_end text)) (reader_fault Size 0 0)
 
-pub text_in_range : (text : List ℕ) → AllInRange (text_feed text).items
+behind_in_range : (o : Option Fault) (feed : Feed) → AllInRange feed.items → AllInRange (feed_behind o feed).items
+behind_in_range None feed all = all
+behind_in_range (Some fault) feed all = tt
+
+-- the branches that a text source has yet to give are in range, however far it has been read
+pub left_in_range : (s : TextSource) → AllInRange (text_left s).items
+left_in_range s =
+    behind_in_range s.fault (lines_feed (known s.names) s.place.line s.place.byte (pieces line_end s.rest.now)) (lines_numbers (known s.names) s.place.line s.place.byte (pieces line_end s.rest.now)).range
+
+text_in_range : (text : List ℕ) → AllInRange (text_feed text).items
 text_in_range text = (text_numbers text).range
 
 pub text_routines : (text : List ℕ) → (text_feed text).ending ≡ None → routines (text_feed text).items ≡ length (text_legend text)

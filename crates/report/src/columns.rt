@@ -4,7 +4,6 @@ ghost use Rattle.linear.specs.System.{entry_at};
 ghost use Rattle.reader.specs.Text.{ended};
 ghost use Rattle.reader.specs.Unread.{text_left, legend_left};
 ghost use Rattle.newton.specs.Slices.{SameLent};
-ghost use Rattle.report.specs.Script.{AllInRange};
 ghost use Rattle.report.specs.Settled.{Settles};
 ghost use Rattle.report.specs.Figures.{FiguresOf, least_kind, most_kind, light_kind, disc_kind};
 
@@ -38,15 +37,12 @@ const NO_BRANCH: Branch = Branch {
 };
 
 // Settles the branches of a text, in a space that is large enough.
-// Kept: that the branches are in range is asked here and of each kind; it is true of a text that has
-// not been read yet, and a source that has been read on cannot say so of itself.
 fn settle_text<K: Weighing, V: Solver>(
     source: &mut TextSource,
     solver: &mut V,
     weights: &mut [K],
     space: &mut Space<'_, '_, '_, K>,
 ) -> Result<usize, Fault>
-    requires in_range { AllInRange (text_left source.old).items }
     requires weights { 200 ≤ length weights.old }
     requires values { 32 ≤ length space.old.values.now }
     requires column { 32 ≤ length space.old.column.now }
@@ -82,7 +78,6 @@ macro_rules! figures_of {
 
 // The least seconds, by elimination.
 pub(crate) fn least(source: &mut TextSource) -> Result<Figures<Least>, Fault>
-    requires { AllInRange (text_left source.old).items }
     ensures figures { FiguresOf least_kind (text_left source.old) result }
     ensures at_end { OnOk result (text_left source.new ≡ ended) }
     ensures legend { legend_left source.new ≡ legend_left source.old }
@@ -92,7 +87,6 @@ pub(crate) fn least(source: &mut TextSource) -> Result<Figures<Least>, Fault>
 
 // The most seconds, by elimination.
 pub(crate) fn most(source: &mut TextSource) -> Result<Figures<Most>, Fault>
-    requires { AllInRange (text_left source.old).items }
     ensures figures { FiguresOf most_kind (text_left source.old) result }
     ensures at_end { OnOk result (text_left source.new ≡ ended) }
     ensures legend { legend_left source.new ≡ legend_left source.old }
@@ -102,7 +96,6 @@ pub(crate) fn most(source: &mut TextSource) -> Result<Figures<Most>, Fault>
 
 // The light, by closure.
 pub(crate) fn light(source: &mut TextSource) -> Result<Figures<Light>, Fault>
-    requires { AllInRange (text_left source.old).items }
     ensures figures { FiguresOf light_kind (text_left source.old) result }
     ensures at_end { OnOk result (text_left source.new ≡ ended) }
     ensures legend { legend_left source.new ≡ legend_left source.old }
@@ -112,7 +105,6 @@ pub(crate) fn light(source: &mut TextSource) -> Result<Figures<Light>, Fault>
 
 // The disc, by closure.
 pub(crate) fn disc(source: &mut TextSource) -> Result<Figures<Disc>, Fault>
-    requires { AllInRange (text_left source.old).items }
     ensures figures { FiguresOf disc_kind (text_left source.old) result }
     ensures at_end { OnOk result (text_left source.new ≡ ended) }
     ensures legend { legend_left source.new ≡ legend_left source.old }

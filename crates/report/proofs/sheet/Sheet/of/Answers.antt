@@ -2,23 +2,10 @@ use Rattle.std.proofs.Common.{◌≡◌, ℕ, [], length, get_or, None, sym, ap,
 use Rattle.std.specs.Str.{IsAscii}
 use Rattle.script.specs.Legend.{Legend}
 use Rattle.reader.specs.Unread.{text_left}
-use Rattle.script.specs.Feed.{Feed}
-use Rattle.report.specs.Script.{AllInRange, fault_of}
+use Rattle.report.specs.Script.{fault_of}
 use Rattle.report.specs.Figures.{least_kind, most_kind, light_kind, disc_kind}
-use Rattle.report.proofs.Reading.{text_in_range, text_few, text_ascii, plain_end, filled}
+use Rattle.report.proofs.Reading.{text_few, text_ascii, plain_end, filled}
 use Rattle.report.proofs.sheet.Sheet.of.Goals as goal
-
-pub least-requires : goal.least-requires
-least-requires c = subst (λ (f : Feed). AllInRange f.items) (sym c.new-source.ensures.feed) (text_in_range c.args.text.now)
-
-pub most-requires : goal.most-requires
-most-requires c = subst (λ (f : Feed). AllInRange f.items) (sym c.new.ensures.feed) (text_in_range c.args.text.now)
-
-pub light-requires : goal.light-requires
-light-requires c = subst (λ (f : Feed). AllInRange f.items) (sym c.new-2.ensures.feed) (text_in_range c.args.text.now)
-
-pub disc-requires : goal.disc-requires
-disc-requires c = subst (λ (f : Feed). AllInRange f.items) (sym c.new-3.ensures.feed) (text_in_range c.args.text.now)
 
 pub invariant_of-result : goal.invariant_of-result
 invariant_of-result c =
