@@ -138,7 +138,6 @@ sheet_figures =
     ∷ IsHeld least_algebra Least.weight 1 endless
     ∷ StartGives least_algebra Least.weight 1 endless (Least.zero ∷ [])
     ∷ CloseGives least_algebra Least.weight 1 endless 0 (Least.zero ∷ [])
-    -- no branches: no routine has a figure
     -- no branches: there is no routine to have a figure
     ∷ IsHeld least_algebra Least.weight 0 []
     ∷ StartGives least_algebra Least.weight 0 [] []

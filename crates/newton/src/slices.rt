@@ -25,6 +25,7 @@ pub struct Space<'v, 'c, 'g, K> {
 }
 
 // Fills the first places with zero.
+// Kept: `fill` clones, and that a weight clones without fail is no law of a kind (tried).
 #[tactic(auto, using(equations::proofs::Slices::written_more))]
 pub(crate) fn clear<K: Semiring>(places: usize, items: &mut [K])
     requires { places ≤ length items.old }
