@@ -7,4 +7,6 @@ pub mod place;
 pub mod refusal;
 pub mod source;
 pub mod table;
+#[cfg(test)]
+mod tests;
 pub mod weighing;
