@@ -31,6 +31,12 @@ module _ {top : ℕ} {X : Type 0} (weight : Bounded top → X) (a b : Bounded to
   greater : cond (is_lt (nat_cmp b.value a.value)) (weight a) (weight b) ≡ weight (larger a b)
   greater = picked weight _ a b (larger a b) (λ e. grind (arith, nat_tests, e)) (λ e. grind (arith, nat_tests, e))
 
+pub bounded_min : {top : ℕ} (a b : Bounded top) → cond (is_lt (nat_cmp b.value a.value)) b a ≡ smaller a b
+bounded_min a b = lesser (λ n. n) a b
+
+pub bounded_max : {top : ℕ} (a b : Bounded top) → cond (is_lt (nat_cmp b.value a.value)) a b ≡ larger a b
+bounded_max a b = greater (λ n. n) a b
+
 pub least_min : (a b : Least) → ord_min (least_order.ghosts).cmp a b ≡ Least.plus a b
 least_min least.Never least.Never = refl
 least_min least.Never (least.Seconds b) = refl

@@ -1,7 +1,7 @@
 -- The product, one station of the first set after the other.
-use Rattle.std.specs.Prelude.{fold, filter}
+use Rattle.std.specs.Prelude.{fold}
 use Rattle.std.specs.List.{range_with_len}
-use Rattle.std.proofs.Common.{zero as none, suc, ◌≤◌, cond, List, ◌∷◌, add-zero, ◌≡◌, ℕ, ◌+◌, ◌-◌, ◌%◌, ◌<◌, Bool, true, false, ◌&&◌, ◌||◌, eqb, sym, refl, ap, ◌∙◌, ap₂, add-one, arith}
+use Rattle.std.proofs.Common.{zero as none, suc, ◌≤◌, cond, add-zero, ◌≡◌, ℕ, ◌+◌, ◌-◌, ◌%◌, ◌<◌, Bool, true, false, ◌&&◌, ◌||◌, eqb, sym, refl, ap, ◌∙◌, ap₂, add-one, arith}
 use mathlib.Core.Path.{fun_ext}
 use Rattle.std.proofs.Math.Bool.{or_comm}
 use Rattle.std.specs.Cmp.{both_ways}
@@ -17,10 +17,10 @@ abbrev from : Disc → Disc → ℕ → ℕ → Bool
 from a b t s = any 24 (λ u. has a s && has b u && eqb ((s + u) % 24) t)
 
 -- the product with the stations of a below n
-abbrev partial : Disc → Disc → ℕ → Disc
+abbrev pub partial : Disc → Disc → ℕ → Disc
 partial a b n = stations (λ t. any n (from a b t))
 
-partial_none : (a b : Disc) → zero ≡ partial a b 0
+pub partial_none : (a b : Disc) → zero ≡ partial a b 0
 unfolding any stations
 partial_none a b = refl
 
@@ -51,7 +51,7 @@ unfolding any
 any_more n p = ap (λ (m : ℕ). any m p) (add-one n)
 
 -- the next station stands in a: its turn of b is added
-partial_turn : (a b : Disc) (s : ℕ) → s < 24 → has a s ≡ true → plus (partial a b s) (turned s b) ≡ partial a b (s + 1)
+pub partial_turn : (a b : Disc) (s : ℕ) → s < 24 → has a s ≡ true → plus (partial a b s) (turned s b) ≡ partial a b (s + 1)
 partial_turn a b s h there =
     same_stations _ _
     (λ t ht. has_plus (partial a b s) (turned s b) t ht
@@ -59,22 +59,22 @@ partial_turn a b s h there =
     ∙ or_comm (any s (from a b t)) (from a b t s) ∙ sym (any_more s (from a b t)) ∙ sym (has_stations (λ t. any (s + 1) (from a b t)) t ht))
 
 -- it does not: nothing is added
-partial_skip : (a b : Disc) (s : ℕ) → has a s ≡ false → partial a b s ≡ partial a b (s + 1)
+pub partial_skip : (a b : Disc) (s : ℕ) → has a s ≡ false → partial a b s ≡ partial a b (s + 1)
 partial_skip a b s off =
     ap stations (fun_ext (λ t. sym (any_more s (from a b t) ∙ ap (λ x. x || any s (from a b t)) (from_none a b t s off))))
 
--- the stations of a from s on add their turns of b
-abbrev pub turn : Disc → Disc → ℕ → Disc
-turn b all s = plus all (turned s b)
+-- a station of a adds its turn of b
+abbrev pub step : Disc → Disc → Disc → ℕ → Disc
+step a b all s = cond (has a s) (plus all (turned s b)) all
 
-gathered : (a b : Disc) (n s : ℕ) → s + n ≤ 24 → fold (turn b) (partial a b s) (filter (has a) (range_with_len s n)) ≡ partial a b (s + n)
+gathered : (a b : Disc) (n s : ℕ) → s + n ≤ 24 → fold (step a b) (partial a b s) (range_with_len s n) ≡ partial a b (s + n)
 gathered a b none s h = ap (partial a b) (sym (add-zero s))
-gathered a b (suc n) s h = go (has a s) refl (filter (has a) (range_with_len (s + 1) n)) (gathered a b n (s + 1) (omega arith))
+gathered a b (suc n) s h = go (has a s) refl (gathered a b n (s + 1) (omega arith))
   where
-    go : (x : Bool) → has a s ≡ x → (rest : List ℕ) → fold (turn b) (partial a b (s + 1)) rest ≡ partial a b (s + 1 + n)
-        → fold (turn b) (partial a b s) (cond x (s ∷ rest) rest) ≡ partial a b (s + suc n)
-    go true there rest later = ap (λ d. fold (turn b) d rest) (partial_turn a b s (omega arith) there) ∙ later ∙ ap (partial a b) (omega arith)
-    go false off rest later = ap (λ d. fold (turn b) d rest) (partial_skip a b s off) ∙ later ∙ ap (partial a b) (omega arith)
+    go : (x : Bool) → has a s ≡ x → fold (step a b) (partial a b (s + 1)) (range_with_len (s + 1) n) ≡ partial a b (s + 1 + n)
+        → fold (step a b) (cond x (plus (partial a b s) (turned s b)) (partial a b s)) (range_with_len (s + 1) n) ≡ partial a b (s + suc n)
+    go true there later = ap (λ d. fold (step a b) d (range_with_len (s + 1) n)) (partial_turn a b s (omega arith) there) ∙ later ∙ ap (partial a b) (omega arith)
+    go false off later = ap (λ d. fold (step a b) d (range_with_len (s + 1) n)) (partial_skip a b s off) ∙ later ∙ ap (partial a b) (omega arith)
 
-pub gathered_all : (a b : Disc) → fold (turn b) zero (filter (has a) (range_with_len 0 24)) ≡ times a b
-gathered_all a b = ap (λ d. fold (turn b) d (filter (has a) (range_with_len 0 24))) (partial_none a b) ∙ gathered a b 24 0 (omega arith)
+pub gathered_all : (a b : Disc) → fold (step a b) zero (range_with_len 0 24) ≡ times a b
+gathered_all a b = ap (λ d. fold (step a b) d (range_with_len 0 24)) (partial_none a b) ∙ gathered a b 24 0 (omega arith)

@@ -10,7 +10,7 @@ ghost use Rattle.kinds.specs.Laws.Equal.{disc_identity};
 use crate::weights::{Disc, Multiples};
 use script::branch::Branch;
 use script::weighing::Weighing;
-use semiring::Semiring;
+use semiring::{Equality, Semiring};
 use std::fmt;
 
 // The formulas say of stations what the words of sets say.
@@ -141,8 +141,6 @@ impl Disc {
 impl Semiring for Disc {
     ghost algebra = { disc_algebra };
 
-    ghost equal = { disc_identity };
-
     fn zero() -> Disc {
         Disc { bits: 0 }
     }
@@ -159,9 +157,13 @@ impl Semiring for Disc {
 
     // The other set, turned by each station of this one.
     fn product(self, other: Disc) -> Disc {
-        (0..24)
-            .filter(|s| self.has(*s))
-            .fold(Disc::zero(), |all, s| all.sum(other.turned(s)))
+        (0..24).fold(Disc::zero(), |all, s| {
+            if self.has(s) {
+                all.sum(other.turned(s))
+            } else {
+                all
+            }
+        })
     }
 
     fn star(self) -> Disc {
@@ -169,6 +171,14 @@ impl Semiring for Disc {
             bits: self.closing().bits,
         }
     }
+
+    fn same(self, other: Disc) -> bool {
+        self == other
+    }
+}
+
+impl Equality for Disc {
+    ghost equal = { disc_identity };
 }
 
 impl Weighing for Disc {

@@ -7,7 +7,7 @@ ghost use Rattle.kinds.specs.Laws.Equal.{least_identity};
 use crate::weights::{Bounded, Least};
 use script::branch::Branch;
 use script::weighing::Weighing;
-use semiring::Semiring;
+use semiring::{Equality, Semiring};
 use std::fmt;
 
 impl Least {
@@ -26,8 +26,6 @@ impl Least {
 impl Semiring for Least {
     ghost algebra = { least_algebra };
 
-    ghost equal = { least_identity };
-
     fn zero() -> Least {
         Least::Never
     }
@@ -37,7 +35,10 @@ impl Semiring for Least {
     }
 
     fn sum(self, other: Least) -> Least {
-        self.min(other)
+        match (self, other) {
+            (Least::Seconds(a), Least::Seconds(b)) => Least::Seconds(a.min(b)),
+            (Least::Never, weight) | (weight, Least::Never) => weight,
+        }
     }
 
     fn product(self, other: Least) -> Least {
@@ -52,6 +53,14 @@ impl Semiring for Least {
     fn star(self) -> Least {
         Least::one()
     }
+
+    fn same(self, other: Least) -> bool {
+        self == other
+    }
+}
+
+impl Equality for Least {
+    ghost equal = { least_identity };
 }
 
 impl Weighing for Least {

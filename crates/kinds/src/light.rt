@@ -7,7 +7,7 @@ ghost use Rattle.kinds.specs.Laws.Equal.{light_identity};
 use crate::weights::{Bounded, Light};
 use script::branch::Branch;
 use script::weighing::Weighing;
-use semiring::Semiring;
+use semiring::{Equality, Semiring};
 use std::fmt;
 
 impl Light {
@@ -23,8 +23,6 @@ impl Light {
 
 impl Semiring for Light {
     ghost algebra = { light_algebra };
-
-    ghost equal = { light_identity };
 
     fn zero() -> Light {
         Light::of(0)
@@ -45,6 +43,14 @@ impl Semiring for Light {
     fn star(self) -> Light {
         Light::one()
     }
+
+    fn same(self, other: Light) -> bool {
+        self == other
+    }
+}
+
+impl Equality for Light {
+    ghost equal = { light_identity };
 }
 
 impl Weighing for Light {

@@ -7,7 +7,7 @@ ghost use Rattle.kinds.specs.Laws.Equal.{most_identity};
 use crate::weights::{Bounded, Most};
 use script::branch::Branch;
 use script::weighing::Weighing;
-use semiring::Semiring;
+use semiring::{Equality, Semiring};
 use std::fmt;
 
 impl Most {
@@ -22,8 +22,6 @@ impl Most {
 impl Semiring for Most {
     ghost algebra = { most_algebra };
 
-    ghost equal = { most_identity };
-
     fn zero() -> Most {
         Most::Never
     }
@@ -33,7 +31,10 @@ impl Semiring for Most {
     }
 
     fn sum(self, other: Most) -> Most {
-        self.max(other)
+        match (self, other) {
+            (Most::Seconds(a), Most::Seconds(b)) => Most::Seconds(a.max(b)),
+            (Most::Never, weight) | (weight, Most::Never) => weight,
+        }
     }
 
     fn product(self, other: Most) -> Most {
@@ -51,6 +52,14 @@ impl Semiring for Most {
             _ => Most::one(),
         }
     }
+
+    fn same(self, other: Most) -> bool {
+        self == other
+    }
+}
+
+impl Equality for Most {
+    ghost equal = { most_identity };
 }
 
 impl Weighing for Most {

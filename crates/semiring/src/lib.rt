@@ -10,7 +10,7 @@ ghost use Rattle.semiring.specs.Sums.{total, LeastAbove};
 
 // A commutative idempotent semiring in which every star is a finite sum of powers. No call
 // refuses.
-pub trait Semiring: Copy + Eq {
+pub trait Semiring: Copy {
     // The operations, with the laws that every implementation proves.
     ghost algebra: { Algebra Self };
 
@@ -33,15 +33,13 @@ pub trait Semiring: Copy + Eq {
         ensures { result ≡ algebra.star self };
 
     // Yes exactly where the two weights are equal.
-    // Kept: its clauses say of weights what the law says of `==`, for code over any kind.
     fn same(self, other: Self) -> bool
         ensures yes { result ≡ true → self ≡ other }
-        ensures no { result ≡ false → self ≢ other }
-    {
-        self == other
-    }
+        ensures no { result ≡ false → self ≢ other };
+}
 
-    // What `==` answers: whether two weights are one.
+// A kind whose `==` says yes of a weight and itself, and of no two others.
+pub trait Equality: Semiring + Eq {
     ghost equal: { IsIdentity Self.eq };
 }
 

@@ -3,12 +3,10 @@
 ghost use Rattle.std.proofs.Common.{rules};
 ghost use Rattle.semiring.specs.Truth.{truth};
 
-use crate::Semiring;
+use crate::{Equality, Semiring};
 
 impl Semiring for bool {
     ghost algebra = { truth };
-
-    ghost equal = { record { sound = Prim.search rules; reflexive = Prim.search rules } };
 
     fn zero() -> bool {
         false
@@ -29,4 +27,11 @@ impl Semiring for bool {
     fn star(self) -> bool {
         true
     }
+    fn same(self, other: bool) -> bool {
+        self == other
+    }
+}
+
+impl Equality for bool {
+    ghost equal = { record { sound = Prim.search rules; reflexive = Prim.search rules } };
 }

@@ -1,0 +1,6 @@
+use Rattle.std.proofs.Common.{sym, ◌∙◌}
+use Rattle.kinds.specs.Laws.Equal.{most_identity}
+use Rattle.kinds.proofs.most.MostSemiring.same.Goals as goal
+
+pub returns-clause-yes : goal.returns-clause-yes
+returns-clause-yes c e = most_identity.sound c.args.self c.args.other (sym c.eq.ensures ∙ e)
