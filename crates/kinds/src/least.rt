@@ -34,6 +34,7 @@ impl Semiring for Least {
         Least::after(0)
     }
 
+    #[tactic(auto, using(crate::proofs::Order::bounded_min))]
     fn sum(self, other: Least) -> Least {
         match (self, other) {
             (Least::Seconds(a), Least::Seconds(b)) => Least::Seconds(a.min(b)),

@@ -30,6 +30,7 @@ impl Semiring for Most {
         Most::after(0)
     }
 
+    #[tactic(auto, using(crate::proofs::Order::bounded_max))]
     fn sum(self, other: Most) -> Most {
         match (self, other) {
             (Most::Seconds(a), Most::Seconds(b)) => Most::Seconds(a.max(b)),
