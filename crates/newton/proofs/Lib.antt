@@ -1,4 +1,5 @@
 pub mod Above
+pub mod Asking
 pub mod Benches
 pub mod Feeding
 pub mod Ruled

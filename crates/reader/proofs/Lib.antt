@@ -1,4 +1,5 @@
 pub mod AsMet
+pub mod Bounds
 pub mod Calling
 pub mod Cutting
 pub mod Digits

@@ -90,10 +90,11 @@ pub(crate) fn number(word: &[u8], most: u16) -> Option<u16>
     }
 }
 
-fn count_calls(word: &[u8]) -> usize
-    ensures { result ≡ length (pieces PLUS word.now) }
+// Whether a word has at most four pieces. It is read no further than to the end of the fifth.
+fn few_calls(word: &[u8]) -> bool
+    ensures { result ≡ nat_le (length (pieces PLUS word.now)) 4 }
 {
-    word.split(|b| *b == PLUS).count()
+    word.split(|b| *b == PLUS).take(5).count() <= 4
 }
 
 fn all_names(word: &[u8]) -> bool
@@ -106,5 +107,5 @@ fn all_names(word: &[u8]) -> bool
 pub(crate) fn calls_ok(word: &[u8]) -> bool
     ensures { result ≡ is_calls word.now }
 {
-    word == NO_CALLS || count_calls(word) <= 4 && all_names(word)
+    word == NO_CALLS || few_calls(word) && all_names(word)
 }
