@@ -27,6 +27,7 @@ impl Semiring for bool {
     fn star(self) -> bool {
         true
     }
+
     fn same(self, other: bool) -> bool {
         self == other
     }
