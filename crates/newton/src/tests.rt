@@ -13,6 +13,7 @@ use script::fault::{Cause, Fault};
 use script::place::Place;
 use script::table::TableSource;
 use script::weighing::Weighing;
+use semiring::Equality;
 use std::process::Abort;
 use std::test::Fail;
 
@@ -341,7 +342,7 @@ fn a_table_with_a_refused_branch(rt: HostRuntime) -> Result<(), Fail> {
 }
 
 // Settles the example, and reads the figures of both routines.
-fn settles<K: Weighing, S: Solver>(
+fn settles<K: Weighing + Equality, S: Solver>(
     rt: &impl Abort,
     solver: &mut S,
     held: &mut Held<K>,
